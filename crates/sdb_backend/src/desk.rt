@@ -223,7 +223,7 @@ pub fn submit_is_atomic<R: Wait + Drop, G: Gate>(
     ensures pass { IsPassOfBackend pass.new backend.now }
     ensures decides { AnsweredAtExtension (plain_key key.now) (commit_now submission.now now) pass.old
         (plain_reply result) pass.new }
-    ensures adds { AddsEntry (plain_key key.now) submission.now now pass.old (plain_reply result) pass.new }
+    ensures adds_entry { AddsEntry (plain_key key.now) submission.now now pass.old (plain_reply result) pass.new }
 {
     submit(alloc, backend, pass, key, submission, now, gate)
 }

@@ -40,8 +40,8 @@ impl Host {
 // Returns whether a list sorted by number contains the number.
 fn contains_number(passes: &[Pass], number: u64) -> bool
     requires { IsNonDecreasing (map pass_number passes.now) }
-    ensures is { IsTrue result → Contains (map pass_number passes.now) number }
-    ensures not { IsFalse result → Contains (map pass_number passes.now) number → ⊥ }
+    ensures on_true { IsTrue result → Contains (map pass_number passes.now) number }
+    ensures on_false { IsFalse result → Contains (map pass_number passes.now) number → ⊥ }
 {
     passes
         .binary_search_by_key(

@@ -166,7 +166,7 @@ pub(crate) fn split_off_half<T: TryClone>(
         ≡ drop (length (items_of chunk.old) / 2) (map T.model (items_of chunk.old))) }
     ensures err { OnErr result (map T.model (items_of chunk.new) ≡ map T.model (items_of chunk.old)) }
     ensures unique { is_chunk_unique chunk.old ≡ true → is_chunk_unique chunk.new ≡ true }
-    ensures other { IfOk result (λ b. is_chunk_unique b ≡ true) }
+    ensures new_unique { IfOk result (λ b. is_chunk_unique b ≡ true) }
 {
     let middle = chunk.len() / 2;
     chunk.make_unique(alloc)?;
@@ -285,7 +285,7 @@ pub(crate) fn remove_from_chunks<T: TryClone>(
     ensures err { OnErr result (flatten_models T.model chunks.new.items ≡ flatten_models T.model chunks.old.items) }
     ensures unique { all_unique chunks.old.items ≡ true → all_unique chunks.new.items ≡ true }
     ensures shared_on_err { OnErr result (all_unique chunks.old.items ≡ false) }
-    ensures shared_there { OnErr result (is_unique_at chunks.old.items index ≡ false) }
+    ensures item_shared_on_err { OnErr result (is_unique_at chunks.old.items index ≡ false) }
     ensures bound { max_chunk_length chunks.new.items ≤ max_chunk_length chunks.old.items }
 {
     let Some((at, inside)) = item_position(chunks, index) else {

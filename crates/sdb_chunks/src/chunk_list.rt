@@ -21,7 +21,8 @@ fn make_chunks_unique<T: TryClone>(
 ) -> Result<(), AllocError>
     ensures same { flatten_models T.model (items_of chunks.new) ≡ flatten_models T.model (items_of chunks.old) }
     ensures unchanged { all_unique (items_of chunks.new) ≡ all_unique (items_of chunks.old) }
-    ensures among { (i : ℕ) → is_unique_at (items_of chunks.new) i ≡ is_unique_at (items_of chunks.old) i }
+    ensures uniqueness_unchanged { (i : ℕ)
+        → is_unique_at (items_of chunks.new) i ≡ is_unique_at (items_of chunks.old) i }
     ensures unique { OnOk result (is_chunk_unique chunks.new ≡ true) }
     ensures shared_on_err { OnErr result (is_chunk_unique chunks.old ≡ false) }
     ensures bound { max_chunk_length (items_of chunks.new) ≡ max_chunk_length (items_of chunks.old) }
@@ -74,7 +75,7 @@ pub(crate) fn remove_from_chunk_list<T: TryClone>(
         ≡ flatten_models T.model (items_of chunks.old)) }
     ensures unique { is_unique_repr (Chunks chunks.old) ≡ true → is_unique_repr (Chunks chunks.new) ≡ true }
     ensures shared_on_err { OnErr result (is_unique_repr (Chunks chunks.old) ≡ false) }
-    ensures shared_there { OnErr result (is_unique_repr_at (Chunks chunks.old) index ≡ false) }
+    ensures item_shared_on_err { OnErr result (is_unique_repr_at (Chunks chunks.old) index ≡ false) }
     ensures bound { max_chunk_length (items_of chunks.new) ≤ max_chunk_length (items_of chunks.old) }
 {
     make_chunks_unique(alloc, chunks)?;

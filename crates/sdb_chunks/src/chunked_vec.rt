@@ -345,7 +345,7 @@ impl<T: TryClone> ChunkedVec<T> {
         ensures err { OnErr result (vec_models T.model self.new ≡ vec_models T.model self.old) }
         ensures unique { is_unique_vec self.old ≡ true → is_unique_vec self.new ≡ true }
         ensures shared_on_err { OnErr result (is_unique_vec self.old ≡ false) }
-        ensures shared_there { OnErr result (is_unique_vec_at self.old index ≡ false) }
+        ensures item_shared_on_err { OnErr result (is_unique_vec_at self.old index ≡ false) }
         ensures bound { max_chunk_length (vec_chunks self.new) ≤ max_chunk_length (vec_chunks self.old) }
     {
         match &mut self.repr {

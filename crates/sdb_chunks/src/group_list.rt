@@ -67,7 +67,7 @@ fn make_groups_unique<T: TryClone>(
 ) -> Result<(), AllocError>
     ensures unchanged { flatten_group_models T.model (items_of groups.new)
         ≡ flatten_group_models T.model (items_of groups.old) }
-    ensures among { (i : ℕ) → is_unique_in_groups_at (items_of groups.new) i
+    ensures uniqueness_unchanged { (i : ℕ) → is_unique_in_groups_at (items_of groups.new) i
         ≡ is_unique_in_groups_at (items_of groups.old) i }
     ensures unique { OnOk result (is_chunk_unique groups.new ≡ true) }
     ensures shared_on_err { OnErr result (is_chunk_unique groups.old ≡ false) }

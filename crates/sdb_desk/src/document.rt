@@ -204,9 +204,9 @@ impl Document {
     // Returns the nearest cached snapshot up to this version, or the absent document at version 0.
     fn nearest(&mut self, alloc: Global, version: u64) -> Result<(u64, Option<Json>), AllocError>
         requires { version ≤ length self.old.log }
-        ensures up_to { IfOk result (λ r. r.0 ≤ version) }
+        ensures bound { IfOk result (λ r. r.0 ≤ version) }
         ensures snap { IfOk result (λ r. snap (take r.0 self.old.log) ≡ Some (option_map value_of r.1)) }
-        ensures begins { IfOk result (λ r. IsReplayStart (nearest version self.old.cache) r.0
+        ensures replay_start { IfOk result (λ r. IsReplayStart (nearest version self.old.cache) r.0
             (option_map value_of r.1)) }
         ensures memory { OnErr result (0 < version) }
         ensures log { self.new.log ≡ self.old.log }
@@ -390,7 +390,7 @@ fn append_entry(
     made: Option<Json>,
 ) -> Result<(), AllocError>
     requires document { IsMadeDocument log.old present.old }
-    requires settles { WillStore log.old submission content (option_map value_of made) }
+    requires will_store { WillStore log.old submission content (option_map value_of made) }
     ensures log { OnOk result (log.new ≡ (decide log.old submission now).log) }
     ensures reply { OnOk result
         ((decide log.old submission now).reply ≡ stored (length log.old) (missed_entries log.old submission)) }

@@ -294,12 +294,12 @@ fn try_box(alloc: Global, document: Document) -> Result<Box<Document>, AllocErro
 
 // Pushes the entry of this version, the newest one, to the ring buffers.
 fn push_to_rings(queues: &mut Queues, document: &Option<Box<Document>>, version: u64)
-    ensures bare { without_rings queues.new ≡ without_rings queues.old }
+    ensures queues_unchanged { without_rings queues.new ≡ without_rings queues.old }
     ensures rings_of_log { (log : List PlainEntry) (entry : PlainEntry)
         → (document_or_empty document.now).log ≡ log ++ entry ∷ [] → version ≡ length log
         → entry.version ≡ length log → AreRingsOfLog log queues.old.queues
         → AreRingsOfLog (log ++ entry ∷ []) queues.new.queues }
-    ensures noted { (log : List PlainEntry) (entry : PlainEntry)
+    ensures pushed { (log : List PlainEntry) (entry : PlainEntry)
         → (document_or_empty document.now).log ≡ log ++ entry ∷ [] → version ≡ length log
         → ArePushed entry queues.old.queues queues.new.queues }
 {

@@ -450,7 +450,7 @@ impl Shard {
         made: Option<Json>,
     ) -> Result<(), AllocError>
         requires nothing { empty_slot ≡ slots_of self.old (plain_key key.now) }
-        requires settles { WillStore [] submission content (option_map value_of made) }
+        requires will_store { WillStore [] submission content (option_map value_of made) }
         ensures logs { OnOk result
             (logs_of self.new ≡ with_log (logs_of self.old) (plain_key key.now) (decide [] submission now).log) }
         ensures reply { OnOk result ((decide [] submission now).reply ≡ stored 0 (missed_entries [] submission)) }
@@ -760,7 +760,7 @@ impl Shard {
         ensures rings { IfOk result (λ s. ringed_queues_of self.new
             ≡ with_ringed_queues (ringed_queues_of self.old) (plain_key key.now)
             (append_ringed_queue s.id by s.start (ringed_queues_of self.old (plain_key key.now)))) }
-        ensures rings_left { OnErr result (ringed_queues_of self.new ≡ ringed_queues_of self.old) }
+        ensures rings_unchanged_on_err { OnErr result (ringed_queues_of self.new ≡ ringed_queues_of self.old) }
     {
         let start = self.queue_start(key, version)?;
         if self.ids_exhausted(key) {
@@ -845,7 +845,7 @@ impl Shard {
         ensures rings { IfOk result (λ id. ringed_queues_of self.new
             ≡ with_ringed_queues (ringed_queues_of self.old) (plain_key key.now)
             (append_ringed_queue id by start (ringed_queues_of self.old (plain_key key.now)))) }
-        ensures rings_left { OnErr result (ringed_queues_of self.new ≡ ringed_queues_of self.old) }
+        ensures rings_unchanged_on_err { OnErr result (ringed_queues_of self.new ≡ ringed_queues_of self.old) }
     {
         if let Some(slot) = self.slots.get_mut(key) {
             return slot.open(by, start);
@@ -880,7 +880,7 @@ impl Shard {
             ≡ with_ringed_queues (ringed_queues_of self.old) (plain_key key.now)
             (ringed_queues_after_take_by (logs_of self.old (plain_key key.now)) by id max
             (ringed_queues_of self.old (plain_key key.now)))) }
-        ensures rings_left { OnErr result (ringed_queues_of self.new ≡ ringed_queues_of self.old) }
+        ensures rings_unchanged_on_err { OnErr result (ringed_queues_of self.new ≡ ringed_queues_of self.old) }
     {
         match self.slots.get_mut(key) {
             Some(slot) => slot.take(self.alloc, by, id, max),

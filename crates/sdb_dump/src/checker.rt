@@ -125,7 +125,7 @@ impl Checker {
     }
 
     fn check_header(&mut self, line: &[u8]) -> Result<(), DumpFault>
-        requires head { self.old.stage ≡ Header }
+        requires stage { self.old.stage ≡ Header }
         ensures equal { OnOk result (self.new.entries ≡ self.old.entries) }
         ensures taken { OnOk result ((s : PlainStage) → CheckerAtStage self.old s
             → CheckerAtStage self.new (stage_after_line s line.now)) }
@@ -141,7 +141,7 @@ impl Checker {
     }
 
     fn check_body(&mut self, version: DumpVersion, line: &[u8]) -> Result<(), DumpFault>
-        requires body { self.old.stage ≡ Body version }
+        requires stage { self.old.stage ≡ Body version }
         requires counter_bound { self.old.entries + 3 < 2 ^ 64 }
         ensures bound { OnOk result (self.new.entries ≤ self.old.entries + 1) }
         ensures taken { OnOk result ((s : PlainStage) → CheckerAtStage self.old s
@@ -168,7 +168,7 @@ impl Checker {
         requires counter_bound { self.old.entries + 3 < 2 ^ 64 }
         ensures bound { self.new.entries ≤ self.old.entries + 1 }
         ensures stage_unchanged { self.new.stage ≡ self.old.stage }
-        ensures enters { IfOk result (λ b. (xs : List PlainLine) → CheckerHolds self.old xs →
+        ensures accepted { IfOk result (λ b. (xs : List PlainLine) → CheckerHolds self.old xs →
             AcceptsOrRejects b (accepted_line version xs line.now) self.new xs) }
     {
         match read_line(self.alloc, version, line)? {
@@ -186,10 +186,10 @@ impl Checker {
         read: LineContent,
     ) -> Result<bool, AllocError>
         requires counter_bound { self.old.entries + 3 < 2 ^ 64 }
-        requires fits { KeyInLimits (plain_key read.key) × SubmissionInLimits read.submission }
+        requires in_limits { KeyInLimits (plain_key read.key) × SubmissionInLimits read.submission }
         ensures bound { self.new.entries ≤ self.old.entries + 1 }
         ensures stage_unchanged { self.new.stage ≡ self.old.stage }
-        ensures enters { IfOk result (λ b. (xs : List PlainLine) → CheckerHolds self.old xs →
+        ensures accepted { IfOk result (λ b. (xs : List PlainLine) → CheckerHolds self.old xs →
             AcceptsOrRejects b (line_of_read version xs line.now (plain_line_content read)) self.new xs) }
     {
         let LineContent {
@@ -218,7 +218,7 @@ impl Checker {
     fn take_decided_log(&mut self, key: &Key) -> Result<Option<DecidedLog>, AllocError>
         ensures stage_unchanged { self.new.stage ≡ self.old.stage }
         ensures entries { self.new.entries ≡ self.old.entries }
-        ensures takes { IfOk result (λ d. (xs : List PlainLine) → CheckerHolds self.old xs →
+        ensures taken_log { IfOk result (λ d. (xs : List PlainLine) → CheckerHolds self.old xs →
             TakesDecidedLog xs (plain_key key.now) self.new d) }
     {
         let Some(last) = self.last.take() else {
@@ -236,7 +236,7 @@ impl Checker {
 
     // Moves the log of a complete document to the map.
     fn keep_log(&mut self, last: LastDocument) -> Result<(), AllocError>
-        ensures kept { OnOk result (self.new.logs.entries ≡
+        ensures logs { OnOk result (self.new.logs.entries ≡
             insert_entry (λ a b. compare_keys (plain_key a) (plain_key b)) self.old.logs.entries last.key
             last.document) }
         ensures stage_unchanged { self.new.stage ≡ self.old.stage }

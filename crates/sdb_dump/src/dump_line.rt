@@ -198,7 +198,8 @@ pub(crate) fn read_line(
     line: &[u8],
 ) -> Result<Option<LineContent>, AllocError>
     ensures read { IfOk result (λ l. option_map plain_line_content l ≡ read_line version line.now) }
-    ensures fits { IfOk result (λ l. IfSome l (λ l. KeyInLimits (plain_key l.key) × SubmissionInLimits l.submission)) }
+    ensures in_limits { IfOk result (λ l. IfSome l (λ l. KeyInLimits (plain_key l.key)
+        × SubmissionInLimits l.submission)) }
 {
     let Ok(text) = str::from_utf8(line) else {
         return Ok(None);
@@ -216,7 +217,8 @@ fn read_line_data(
     value: &JsonTree<'_>,
 ) -> Result<Option<LineContent>, AllocError>
     ensures line { IfOk result (λ l. option_map plain_line_content l ≡ line_of_data version (tree_view value.now)) }
-    ensures fits { IfOk result (λ l. IfSome l (λ l. KeyInLimits (plain_key l.key) × SubmissionInLimits l.submission)) }
+    ensures in_limits { IfOk result (λ l. IfSome l (λ l. KeyInLimits (plain_key l.key)
+        × SubmissionInLimits l.submission)) }
 {
     read_keeps_limits();
     let Some(key) = none_if_refused(read_key(alloc, value))? else {

@@ -44,5 +44,5 @@ pub trait Job<T: Grows> {
         requires { precondition self number value.old }
         ensures extends { T.extends value.new value.old }
         ensures others_unchanged { (k : ℕ) → k ≢ number → T.same k value.old value.new }
-        ensures does { postcondition self number value.old value.new result };
+        ensures postcondition { postcondition self number value.old value.new result };
 }

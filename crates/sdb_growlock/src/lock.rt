@@ -31,7 +31,7 @@ impl<T: Grows> GrowLock<T> {
     ///
     /// The value, if an allocation fails.
     pub fn new(alloc: Global, value: T) -> Result<(GrowLock<T>, Seat<T>), T>
-        requires clear { (k : ℕ) → 0 < k → T.blank k value }
+        requires blank { (k : ℕ) → 0 < k → T.blank k value }
         ensures belongs { IfOk result (λ made. BelongsTo made.1 made.0) }
         ensures first { IfOk result (λ made. (number made.1 ≡ 0) × (next made.1 ≡ 1)) }
         ensures seen { IfOk result (λ made. HasSeen made.1 value) }
@@ -122,7 +122,7 @@ impl<T: Grows> GrowLock<T> {
         requires all { (k : ℕ) → k < seat_count seats.items → HasNumber k seats.items }
         ensures seen { ForEach (λ s. (x : T) → HasSeen s x → T.extends result x
             × T.same (number s) x result) seats.items }
-        ensures clear { (k : ℕ) → seat_count seats.items ≤ k → T.blank k result }
+        ensures blank { (k : ℕ) → seat_count seats.items ≤ k → T.blank k result }
     {
         let Some(last) = seats.pop() else {
             unreachable!()
@@ -167,7 +167,7 @@ impl<T: Grows> GrowLock<T> {
         ensures belongs { (table_seat.new.table_id ≡ table_seat.old.table_id)
             × (table_seat.new.id ≡ table_seat.old.id) }
         ensures taken { IsTrue result → AcquiresValue T.extends T.same T.blank table_seat.old.me table_seat.new.me }
-        ensures left { IsFalse result → table_seat.new.me ≡ table_seat.old.me }
+        ensures unchanged_on_false { IsFalse result → table_seat.new.me ≡ table_seat.old.me }
     {
         self.table.shared.swap::<AcquireStep>(table_seat, 0, 1) == 0
     }
@@ -187,12 +187,12 @@ impl<T: Grows> GrowLock<T> {
     // parks only while the lock is held, so no thread needs a wake-up if `waiting` is 0.
     fn release(&self, table_seat: &mut TableSeat<T>)
         requires belongs { table_seat.old.table_id ≡ self.now.table.shared.table_id }
-        requires grown { (n k : ℕ) × (v w : T) × (table_seat.old.me ≡ (holder_view n v k, (0, Some w) ∷ []))
+        requires extended { (n k : ℕ) × (v w : T) × (table_seat.old.me ≡ (holder_view n v k, (0, Some w) ∷ []))
             × T.extends w v
             × ((j : ℕ) → j ≢ n → T.same j v w) }
         ensures belongs { (table_seat.new.table_id ≡ table_seat.old.table_id)
             × (table_seat.new.id ≡ table_seat.old.id) }
-        ensures freed { (w : T) → table_seat.old.me.1 ≡ (0, Some w) ∷ []
+        ensures released { (w : T) → table_seat.old.me.1 ≡ (0, Some w) ∷ []
             → table_seat.new.me ≡ (released_view table_seat.old.me.0 w, []) }
     {
         self.table.shared.store::<ReleaseStep>(table_seat, 0, 0);
@@ -222,7 +222,7 @@ impl<T: Grows> GrowLock<T> {
         requires idle { (other.me.1 ≡ []) × (other.me.0.out ≡ None) }
         ensures belongs { (table_seat.new.table_id ≡ table_seat.old.table_id)
             × (table_seat.new.id ≡ table_seat.old.id) }
-        ensures both { table_seat.new.me ≡ (join_views table_seat.old.me.0 other.me.0, table_seat.old.me.1) }
+        ensures joined { table_seat.new.me ≡ (join_views table_seat.old.me.0 other.me.0, table_seat.old.me.1) }
     {
         self.table
             .shared
@@ -232,7 +232,7 @@ impl<T: Grows> GrowLock<T> {
     // Joins all seats into `place`.
     fn join_all_table_seats(&self, table_seat: &mut TableSeat<T>, mut seats: Vec<Seat<T>>)
         requires belongs { table_seat.old.table_id ≡ self.now.table.shared.table_id }
-        requires owns { ForEach (λ s. s.inner.table_id ≡ self.now.table.shared.table_id) seats.items }
+        requires same_table { ForEach (λ s. s.inner.table_id ≡ self.now.table.shared.table_id) seats.items }
         ensures belongs { (table_seat.new.table_id ≡ table_seat.old.table_id)
             × (table_seat.new.id ≡ table_seat.old.id) }
         ensures all { table_seat.new.me ≡ (

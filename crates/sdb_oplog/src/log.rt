@@ -227,7 +227,7 @@ impl Log {
         from: u64,
         to: u64,
     ) -> Result<Option<Json>, Code>
-        requires order { from ≤ to }
+        requires ordered { from ≤ to }
         requires bound { to ≤ length self.now }
         requires document { snap (take from self.now) ≡ Some (option_map value_of document) }
         ensures ok { IfOk result (λ d. snap (take to self.now) ≡ Some (option_map value_of d)) }

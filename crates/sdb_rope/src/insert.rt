@@ -60,7 +60,7 @@ fn insert_in_chunk(
     byte: usize,
     new: &str,
 ) -> Result<(), AllocError>
-    requires inside { at < length chunks.old.items }
+    requires in_list { at < length chunks.old.items }
     requires boundary { IsSplitPoint (chunk_text (chunk_list_texts chunks.old.items) at) byte }
     ensures ok { OnOk result (concat (chunk_list_texts chunks.new.items)
         ≡ bytes_before (chunk_list_texts chunks.old.items) at byte ++ (new.now ++ bytes_after

@@ -64,7 +64,7 @@ pub(crate) fn end_position(
     from: usize,
     old: &str,
 ) -> Option<(usize, usize)>
-    requires inside { first < length chunks.now }
+    requires in_list { first < length chunks.now }
     requires in_range { from ≤ length (chunk_text (chunk_list_texts chunks.now) first) }
     ensures some { IfSome result (λ e. IsEndPosition (chunk_list_texts chunks.now) first from old.now e.0 e.1) }
     ensures none { IfNone result (starts_with nat_eq (bytes_after (chunk_list_texts chunks.now) first from) old.now

@@ -45,7 +45,7 @@ fn make_chunk_unique(
 ) -> Result<(), AllocError>
     requires { at < length chunks.old.items }
     ensures unchanged { chunk_list_texts chunks.new.items ≡ chunk_list_texts chunks.old.items }
-    ensures here { OnOk result (HoldsAt IsUniqueChunk chunks.new.items at) }
+    ensures unique_at_index { OnOk result (HoldsAt IsUniqueChunk chunks.new.items at) }
     ensures others_unchanged { (k : ℕ) → HoldsAt IsUniqueChunk chunks.old.items k
         → HoldsAt IsUniqueChunk chunks.new.items k }
     ensures unique { All IsUniqueChunk chunks.old.items → All IsUniqueChunk chunks.new.items }
@@ -75,7 +75,7 @@ fn remove_within_chunk(chunks: &mut Vec<RopeChunk>, at: usize, from: usize, to: 
 // Removes the end of one chunk, the beginning of a later one, and the chunks between them.
 fn remove_across_chunks(chunks: &mut Vec<RopeChunk>, span: Span)
     requires range { IsByteRange (chunk_list_texts chunks.old.items) span.first span.from span.last span.to }
-    requires apart { span.first < span.last }
+    requires distinct_chunks { span.first < span.last }
     requires first { HoldsAt IsUniqueChunk chunks.old.items span.first }
     requires last { HoldsAt IsUniqueChunk chunks.old.items span.last }
     ensures bytes { concat (chunk_list_texts chunks.new.items)
@@ -95,7 +95,7 @@ fn remove_across_chunks(chunks: &mut Vec<RopeChunk>, span: Span)
 
 // Removes a range of chunks.
 fn remove_chunks_between(chunks: &mut Vec<RopeChunk>, from: usize, to: usize)
-    requires order { from ≤ to }
+    requires ordered { from ≤ to }
     requires in_range { to ≤ length chunks.old.items }
     ensures { chunks.new.items ≡ remove_range chunks.old.items from to }
 {

@@ -51,7 +51,7 @@ impl Rope {
         ensures ok { IfOk result (λ t. rope_bytes t ≡ string_bytes text) }
         ensures unique { IfOk result (λ t. is_unique_rope t ≡ true) }
         ensures bound { IfOk result HasBoundedChunks }
-        ensures long { OnErr result (4096 < length (string_bytes text)) }
+        ensures memory { OnErr result (4096 < length (string_bytes text)) }
     {
         if text.len() > MAX_CHUNK_LEN {
             let chunks = split_chunks(alloc, text.as_str())?;

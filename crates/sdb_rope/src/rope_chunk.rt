@@ -70,7 +70,7 @@ impl RopeChunk {
     /// Removes a range of bytes.
     pub(crate) fn remove(&mut self, from: usize, to: usize)
         requires unique { is_unique_rope_chunk self.old ≡ true }
-        requires order { from ≤ to }
+        requires ordered { from ≤ to }
         requires start { IsSplitPoint (chunk_bytes self.old) from }
         requires end { IsSplitPoint (chunk_bytes self.old) to }
         ensures bytes { chunk_bytes self.new ≡ remove_range (chunk_bytes self.old) from to }

@@ -95,7 +95,7 @@ impl SharedStr {
     /// Removes a range of bytes.
     pub(crate) fn remove(&mut self, from: usize, to: usize)
         requires unique { is_unique_str self.old ≡ true }
-        requires order { from ≤ to }
+        requires ordered { from ≤ to }
         requires start { IsSplitPoint (str_bytes self.old) from }
         requires end { IsSplitPoint (str_bytes self.old) to }
         ensures bytes { str_bytes self.new ≡ remove_range (str_bytes self.old) from to }

@@ -300,7 +300,7 @@ where
     ensures host { IsHostOfServer host.new state.now.value }
     ensures count { OnOk result (IsSomeAnd connections (λ count. next_pass_number host.new
         ≡ next_pass_number host.old + count)) }
-    ensures nobody { OnErr result (host.new ≡ host.old) }
+    ensures host_unchanged_on_err { OnErr result (host.new ≡ host.old) }
 {
     listener.set_nonblocking(true)?;
     let mut reception = Acceptor::new(alloc, state, false)?;
@@ -340,7 +340,7 @@ where
     requires { IsHostOfServer host.old state.now.value }
     ensures host { IsHostOfServer host.new state.now.value }
     ensures passes { IfOk result (λ passes. ForEach (λ p. IsPassOfBackend p state.now.value.backend) passes.items) }
-    ensures nobody { OnErr result (host.new ≡ host.old) }
+    ensures host_unchanged_on_err { OnErr result (host.new ≡ host.old) }
 {
     listener.set_nonblocking(true)?;
     let mut reception = Acceptor::new(alloc, state, true)?;

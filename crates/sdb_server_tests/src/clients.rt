@@ -7,24 +7,24 @@ use std::time::Duration;
 use tungstenite::handshake::client::request_of;
 use tungstenite::{CloseCode, Message, RandomKeys, WebSocket, client};
 
-pub(crate) const FIRST_OPENING: &str =
+pub(crate) const FIRST_INIT: &str =
     r#"{"a":"init","id":"s1","protocol":1,"protocolMinor":1,"type":"http://sharejs.org/types/JSONv0"}"#;
 
 pub(crate) type Client = WebSocket<TcpStream, RandomKeys<HostRuntime>>;
 
 // The read timeout of a client, in seconds, far above the time a correct server needs.
-const PATIENCE: u64 = 20;
+const READ_TIMEOUT_SECONDS: u64 = 20;
 
 // Opens a TCP connection to the address, with a read timeout.
-pub(crate) fn connect(abort: &impl Abort, rt: HostRuntime, address: SocketAddr) -> TcpStream {
+pub(crate) fn connect_tcp(abort: &impl Abort, rt: HostRuntime, address: SocketAddr) -> TcpStream {
     let stream = TcpStream::connect(&rt, address).expect(abort, "a connection");
-    let patience = Some(Duration::from_secs(PATIENCE));
-    stream.set_read_timeout(patience).expect(abort, "patience");
+    let timeout = Some(Duration::from_secs(READ_TIMEOUT_SECONDS));
+    stream.set_read_timeout(timeout).expect(abort, "a timeout");
     stream
 }
 
 // Connects a client to the address and completes the handshake.
-pub(crate) fn reach(
+pub(crate) fn connect_websocket(
     abort: &impl Abort,
     rt: HostRuntime,
     alloc: Global,
@@ -32,7 +32,7 @@ pub(crate) fn reach(
 ) -> Client {
     let request = request_of(alloc, "ws://localhost/").ok();
     let request = request.expect(abort, "a request");
-    match client(alloc, rt, request, connect(abort, rt, address)) {
+    match client(alloc, rt, request, connect_tcp(abort, rt, address)) {
         Ok((socket, _)) => socket,
         Err(_) => panic!(abort; "no handshake"),
     }
@@ -40,16 +40,16 @@ pub(crate) fn reach(
 
 // Connects a client and reads the opening message. Returns `None` if the server closes with code
 // 1013.
-pub(crate) fn come(
+pub(crate) fn try_open_session(
     abort: &impl Abort,
     rt: HostRuntime,
     alloc: Global,
     address: SocketAddr,
-    opening: &str,
+    init: &str,
 ) -> Option<Client> {
-    let mut socket = reach(abort, rt, alloc, address);
+    let mut socket = connect_websocket(abort, rt, alloc, address);
     let message = next_message(abort, &mut socket);
-    if is_text(&message, opening) {
+    if is_text(&message, init) {
         return Some(socket);
     }
     assert!(abort; is_close(&message, CloseCode::Again));
@@ -57,14 +57,14 @@ pub(crate) fn come(
 }
 
 // Connects a client and reads the opening message.
-pub(crate) fn enter(
+pub(crate) fn open_session(
     abort: &impl Abort,
     rt: HostRuntime,
     alloc: Global,
     address: SocketAddr,
-    opening: &str,
+    init: &str,
 ) -> Client {
-    come(abort, rt, alloc, address, opening).expect(abort, "a slot")
+    try_open_session(abort, rt, alloc, address, init).expect(abort, "a slot")
 }
 
 pub(crate) fn next_message(abort: &impl Abort, socket: &mut Client) -> Message {
@@ -88,7 +88,7 @@ fn is_close(message: &Message, wanted: CloseCode) -> bool {
 }
 
 // Reads the next message and requires that it is this text.
-pub(crate) fn expect(abort: &impl Abort, socket: &mut Client, wanted: &str) {
+pub(crate) fn expect_text(abort: &impl Abort, socket: &mut Client, wanted: &str) {
     assert!(abort; is_text(&next_message(abort, socket), wanted), "{wanted}");
 }
 
@@ -97,15 +97,20 @@ pub(crate) fn expect_close(abort: &impl Abort, socket: &mut Client, wanted: Clos
     assert!(abort; is_close(&next_message(abort, socket), wanted));
 }
 
-pub(crate) fn say(abort: &impl Abort, alloc: Global, socket: &mut Client, text: &str) {
+pub(crate) fn send_text(abort: &impl Abort, alloc: Global, socket: &mut Client, text: &str) {
     let message = Message::text(alloc, text).ok().expect(abort, "a message");
     assert!(abort; socket.send(message).is_ok());
 }
 
 // Sends each text and requires the given response.
-pub(crate) fn ask(abort: &impl Abort, alloc: Global, socket: &mut Client, texts: &[(&str, &str)]) {
+pub(crate) fn exchange(
+    abort: &impl Abort,
+    alloc: Global,
+    socket: &mut Client,
+    texts: &[(&str, &str)],
+) {
     for (text, answer) in texts {
-        say(abort, alloc, socket, text);
-        expect(abort, socket, answer);
+        send_text(abort, alloc, socket, text);
+        expect_text(abort, socket, answer);
     }
 }

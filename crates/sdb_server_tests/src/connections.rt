@@ -5,10 +5,13 @@ ghost use Rattle.sdb_backend.specs.PassModel.{IsHostOfBackend};
 ghost use Rattle.sdb_backend.specs.declared.pass.Host.{Host as HostState};
 ghost use Rattle.sdb_server.specs.PassModel.{IsHostOfServer};
 
-use crate::clients::{Client, FIRST_OPENING, ask, come, connect, enter, expect, expect_close};
-use crate::wakings::{
-    LONG_WAIT_MS, SHORT_WAIT_MS, USUAL_WAIT_MS, be_pinged, be_soon, be_told_at_once,
-    end_behind_a_message, now,
+use crate::clients::{
+    Client, FIRST_INIT, connect_tcp, exchange, expect_close, expect_text, open_session,
+    try_open_session,
+};
+use crate::wakeups::{
+    DEFAULT_WAIT_MS, LONG_WAIT_MS, SHORT_WAIT_MS, assert_soon, end_after_a_message, now,
+    receive_at_once, receive_ping,
 };
 use sdb_backend::Backend;
 use sdb_oplog::Log;
@@ -29,13 +32,13 @@ use tungstenite::CloseCode;
 // The number of clients served at once, and the number of connections in all.
 const SLOTS: u64 = 64;
 
-const ALL: u64 = 128;
+const CONNECTION_COUNT: u64 = 128;
 
 // The maximum number of attempts of a client to be served, or of reads until a close.
 const TRY_LIMIT: u64 = 1_000;
 
 // The number of requests during which the server must not end.
-const ROUNDS: u64 = 200;
+const REQUEST_COUNT: u64 = 200;
 
 pub(crate) const FETCH: &str = r#"{"a":"f","c":"b","d":"1"}"#;
 
@@ -76,16 +79,16 @@ where
     listen(rt, alloc, listener, &state, &mut host, Some(connections))
 }
 
-const OPENING_FRONT: &str = r#"{"a":"init","id":"s"#;
+const INIT_PREFIX: &str = r#"{"a":"init","id":"s"#;
 
-const OPENING_BACK: &str =
+const INIT_SUFFIX: &str =
     r#"","protocol":1,"protocolMinor":1,"type":"http://sharejs.org/types/JSONv0"}"#;
 
-fn opening(abort: &impl Abort, alloc: Global, number: u64) -> String {
-    format!(in alloc; "{OPENING_FRONT}{number}{OPENING_BACK}").expect(abort, "out of memory")
+fn init_message(abort: &impl Abort, alloc: Global, number: u64) -> String {
+    format!(in alloc; "{INIT_PREFIX}{number}{INIT_SUFFIX}").expect(abort, "out of memory")
 }
 
-pub(crate) const SECOND_OPENING: &str =
+pub(crate) const SECOND_INIT: &str =
     r#"{"a":"init","id":"s2","protocol":1,"protocolMinor":1,"type":"http://sharejs.org/types/JSONv0"}"#;
 
 const CREATE: &str =
@@ -102,45 +105,45 @@ pub(crate) const EDIT: &str =
 
 pub(crate) const EDITED: &str = r#"{"a":"op","c":"b","d":"1","seq":1,"src":"y","v":1}"#;
 
-pub(crate) const FOLLOWED: &str =
+pub(crate) const OP_MESSAGE: &str =
     r#"{"a":"op","c":"b","d":"1","op":[{"na":1,"p":["n"]}],"seq":1,"src":"y","v":1}"#;
 
 // Connects the first client, which creates the document and subscribes to it.
-pub(crate) fn follow(
+pub(crate) fn open_subscriber(
     abort: &impl Abort,
     rt: HostRuntime,
     alloc: Global,
     address: SocketAddr,
 ) -> Client {
-    let mut client = enter(abort, rt, alloc, address, FIRST_OPENING);
+    let mut client = open_session(abort, rt, alloc, address, FIRST_INIT);
     let texts = [(CREATE, CREATED), (SUBSCRIBE, SUBSCRIBED)];
-    ask(abort, alloc, &mut client, &texts);
+    exchange(abort, alloc, &mut client, &texts);
     client
 }
 
 // Connects the second client, which edits the document of the subscriber and disconnects.
-fn edit(
+fn edit_as_second_client(
     abort: &impl Abort,
     rt: HostRuntime,
     alloc: Global,
     address: SocketAddr,
-    follower: &mut Client,
+    subscriber: &mut Client,
 ) {
-    let mut client = enter(abort, rt, alloc, address, SECOND_OPENING);
-    ask(abort, alloc, &mut client, &[(EDIT, EDITED)]);
-    expect(abort, follower, FOLLOWED);
+    let mut client = open_session(abort, rt, alloc, address, SECOND_INIT);
+    exchange(abort, alloc, &mut client, &[(EDIT, EDITED)]);
+    expect_text(abort, subscriber, OP_MESSAGE);
 }
 
 // Connects a client, again and again until it is served.
-fn come_again(
+fn open_session_with_retry(
     abort: &impl Abort,
     rt: HostRuntime,
     alloc: Global,
     address: SocketAddr,
-    opening: &str,
+    init: &str,
 ) -> Client {
     for _ in 0..TRY_LIMIT {
-        if let Some(client) = come(abort, rt, alloc, address, opening) {
+        if let Some(client) = try_open_session(abort, rt, alloc, address, init) {
             return client;
         }
     }
@@ -148,7 +151,7 @@ fn come_again(
 }
 
 // Closes a connection, and waits until the server has closed it too.
-fn leave(abort: &impl Abort, mut client: Client) {
+fn close_session(abort: &impl Abort, mut client: Client) {
     assert!(abort; client.close(None).is_ok());
     for _ in 0..TRY_LIMIT {
         if client.read().is_err() {
@@ -159,7 +162,7 @@ fn leave(abort: &impl Abort, mut client: Client) {
 }
 
 // Connects a client for each slot.
-fn enter_all(
+fn open_all_sessions(
     abort: &impl Abort,
     rt: HostRuntime,
     alloc: Global,
@@ -167,22 +170,22 @@ fn enter_all(
 ) -> Vec<Client> {
     let mut clients = Vec::new(alloc);
     for number in 1..=SLOTS {
-        let opening = opening(abort, alloc, number);
-        let client = enter(abort, rt, alloc, address, opening.as_str());
+        let init = init_message(abort, alloc, number);
+        let client = open_session(abort, rt, alloc, address, init.as_str());
         clients.push(client).expect(abort, "out of memory");
     }
     clients
 }
 
 // Checks that more clients are rejected while all slots are taken.
-fn be_sent_away(abort: &impl Abort, rt: HostRuntime, alloc: Global, address: SocketAddr) {
+fn expect_rejections(abort: &impl Abort, rt: HostRuntime, alloc: Global, address: SocketAddr) {
     for _ in 0..3 {
-        assert!(abort; come(abort, rt, alloc, address, "").is_none());
+        assert!(abort; try_open_session(abort, rt, alloc, address, "").is_none());
     }
 }
 
 // Closes each connection, and connects another client that takes and keeps the slot.
-fn take_turns(
+fn replace_sessions(
     abort: &impl Abort,
     rt: HostRuntime,
     alloc: Global,
@@ -190,54 +193,60 @@ fn take_turns(
     mut first: Vec<Client>,
 ) {
     let mut next = Vec::new(alloc);
-    for number in SLOTS + 1..=ALL {
-        leave(abort, first.pop().expect(abort, "a client"));
-        let opening = opening(abort, alloc, number);
-        let client = come_again(abort, rt, alloc, address, opening.as_str());
+    for number in SLOTS + 1..=CONNECTION_COUNT {
+        close_session(abort, first.pop().expect(abort, "a client"));
+        let init = init_message(abort, alloc, number);
+        let client = open_session_with_retry(abort, rt, alloc, address, init.as_str());
         next.push(client).expect(abort, "out of memory");
     }
 }
 
 // Takes all slots, checks that more clients are rejected, and then replaces each client.
 fn fill_all_slots(abort: &impl Abort, rt: HostRuntime, alloc: Global, address: SocketAddr) {
-    let clients = enter_all(abort, rt, alloc, address);
-    be_sent_away(abort, rt, alloc, address);
-    take_turns(abort, rt, alloc, address, clients);
+    let clients = open_all_sessions(abort, rt, alloc, address);
+    expect_rejections(abort, rt, alloc, address);
+    replace_sessions(abort, rt, alloc, address, clients);
 }
 
 // Sends a fetch that is padded to this length in bytes.
-fn ask_padded(abort: &impl Abort, alloc: Global, client: &mut Client, length: usize, answer: &str) {
+fn exchange_padded(
+    abort: &impl Abort,
+    alloc: Global,
+    client: &mut Client,
+    length: usize,
+    answer: &str,
+) {
     let mut text = String::from_str(alloc, FETCH).expect(abort, "out of memory");
     for _ in text.len()..length {
         text.push(' ').expect(abort, "out of memory");
     }
-    ask(abort, alloc, client, &[(text.as_str(), answer)]);
+    exchange(abort, alloc, client, &[(text.as_str(), answer)]);
 }
 
 fn send_large_messages(abort: &impl Abort, rt: HostRuntime, alloc: Global, address: SocketAddr) {
-    let mut client = enter(abort, rt, alloc, address, FIRST_OPENING);
+    let mut client = open_session(abort, rt, alloc, address, FIRST_INIT);
     for (length, answer) in [
         (65_536, FETCHED),
         (65_537, FETCHED),
         (1_048_576, FETCHED),
         (1_048_577, BADLY_FORMED),
     ] {
-        ask_padded(abort, alloc, &mut client, length, answer);
+        exchange_padded(abort, alloc, &mut client, length, answer);
     }
     expect_close(abort, &mut client, CloseCode::Size);
 }
 
 // Sends requests to a server that must not end meanwhile.
-fn stay(
+fn send_many_requests(
     abort: &impl Abort,
     rt: HostRuntime,
     alloc: Global,
     address: SocketAddr,
     has_ended: &AtomicBool,
 ) {
-    let mut client = enter(abort, rt, alloc, address, FIRST_OPENING);
-    for _ in 0..ROUNDS {
-        ask(abort, alloc, &mut client, &[(FETCH, FETCHED)]);
+    let mut client = open_session(abort, rt, alloc, address, FIRST_INIT);
+    for _ in 0..REQUEST_COUNT {
+        exchange(abort, alloc, &mut client, &[(FETCH, FETCHED)]);
         assert!(abort; !has_ended.load(Ordering::SeqCst));
     }
 }
@@ -245,13 +254,13 @@ fn stay(
 const PLAIN_REQUEST: &[u8] = b"GET / HTTP/1.1\r\nHost: localhost\r\n\r\n";
 
 // Returns the response to an HTTP request without an upgrade.
-fn answered_plainly(
+fn plain_response(
     abort: &impl Abort,
     rt: HostRuntime,
     alloc: Global,
     address: SocketAddr,
 ) -> String {
-    let mut stream = connect(abort, rt, address);
+    let mut stream = connect_tcp(abort, rt, address);
     assert!(abort;
         stream.write_all(PLAIN_REQUEST).is_ok() && stream.shutdown(Shutdown::Write).is_ok()
     );
@@ -259,42 +268,52 @@ fn answered_plainly(
 }
 
 // The response is 426 with a text about the server, and the connection is then closed.
-fn ask_plainly(abort: &impl Abort, rt: HostRuntime, alloc: Global, address: SocketAddr) {
-    let answer = answered_plainly(abort, rt, alloc, address);
+fn expect_upgrade_required(
+    abort: &impl Abort,
+    rt: HostRuntime,
+    alloc: Global,
+    address: SocketAddr,
+) {
+    let answer = plain_response(abort, rt, alloc, address);
     let parts = answer.as_str().split_once("\r\n\r\n");
     let (head, body) = parts.expect(abort, "the end of the head");
     let length = format!(in alloc; "Content-Length: {}", body.len()).expect(abort, "out of memory");
-    let is_said = body.starts_with("This is a ShareDB server.") && body.ends_with('\n');
+    let is_explained = body.starts_with("This is a ShareDB server.") && body.ends_with('\n');
     let is_refused = head.lines().next() == Some("HTTP/1.1 426 Upgrade Required");
     let is_named = head.contains("\r\nUpgrade: websocket\r\n");
-    assert!(abort; is_said && is_refused && is_named && head.contains(length.as_str()));
+    assert!(abort; is_explained && is_refused && is_named && head.contains(length.as_str()));
 }
 
 // Connections without bytes or without a handshake do not count as sessions.
-fn come_oddly(abort: &impl Abort, rt: HostRuntime, alloc: Global, address: SocketAddr) {
-    let silent = connect(abort, rt, address);
-    ask_plainly(abort, rt, alloc, address);
-    let mut client = enter(abort, rt, alloc, address, FIRST_OPENING);
-    ask(abort, alloc, &mut client, &[(FETCH, FETCHED)]);
-    leave(abort, client);
+fn connect_without_handshake(
+    abort: &impl Abort,
+    rt: HostRuntime,
+    alloc: Global,
+    address: SocketAddr,
+) {
+    let silent = connect_tcp(abort, rt, address);
+    expect_upgrade_required(abort, rt, alloc, address);
+    let mut client = open_session(abort, rt, alloc, address, FIRST_INIT);
+    exchange(abort, alloc, &mut client, &[(FETCH, FETCHED)]);
+    close_session(abort, client);
     drop(silent);
 }
 
 // The behavior of the clients of one server.
 #[derive(Clone, Copy, Drop)]
-enum Visit {
-    EditAndFollow,
+enum ClientScenario {
+    EditAndSubscribe,
     FillAllSlots,
     SendLargeMessages,
-    Stay,
-    ComeOddly,
-    BeToldAtOnce,
-    BePinged,
-    EndBehindAMessage,
+    SendManyRequests,
+    ConnectWithoutHandshake,
+    ReceiveAtOnce,
+    ReceivePing,
+    EndAfterAMessage,
 }
 
-impl Visit {
-    fn carry_out(
+impl ClientScenario {
+    fn run(
         self,
         abort: &impl Abort,
         rt: HostRuntime,
@@ -303,22 +322,26 @@ impl Visit {
         has_ended: &AtomicBool,
     ) {
         match self {
-            Visit::EditAndFollow => {
-                edit(
+            ClientScenario::EditAndSubscribe => {
+                edit_as_second_client(
                     abort,
                     rt,
                     alloc,
                     address,
-                    &mut follow(abort, rt, alloc, address),
+                    &mut open_subscriber(abort, rt, alloc, address),
                 )
             }
-            Visit::FillAllSlots => fill_all_slots(abort, rt, alloc, address),
-            Visit::SendLargeMessages => send_large_messages(abort, rt, alloc, address),
-            Visit::Stay => stay(abort, rt, alloc, address, has_ended),
-            Visit::ComeOddly => come_oddly(abort, rt, alloc, address),
-            Visit::BeToldAtOnce => be_told_at_once(abort, rt, alloc, address),
-            Visit::BePinged => be_pinged(abort, rt, alloc, address),
-            Visit::EndBehindAMessage => end_behind_a_message(abort, rt, alloc, address),
+            ClientScenario::FillAllSlots => fill_all_slots(abort, rt, alloc, address),
+            ClientScenario::SendLargeMessages => send_large_messages(abort, rt, alloc, address),
+            ClientScenario::SendManyRequests => send_many_requests(
+                abort, rt, alloc, address, has_ended,
+            ),
+            ClientScenario::ConnectWithoutHandshake => connect_without_handshake(
+                abort, rt, alloc, address,
+            ),
+            ClientScenario::ReceiveAtOnce => receive_at_once(abort, rt, alloc, address),
+            ClientScenario::ReceivePing => receive_ping(abort, rt, alloc, address),
+            ClientScenario::EndAfterAMessage => end_after_a_message(abort, rt, alloc, address),
         }
     }
 }
@@ -327,23 +350,27 @@ impl Visit {
 // of 1,048,576 bytes and of one byte more, the end of the server, and silent clients: they receive
 // operations at once, and pings.
 #[test]
-fn clients_over_sockets(rt: HostRuntime) {
+fn clients_are_served_over_sockets(rt: HostRuntime) {
     let alloc = rt.alloc();
-    for (visit, connections, longest_wait) in [
-        (Visit::EditAndFollow, 2, USUAL_WAIT_MS),
-        (Visit::FillAllSlots, ALL, USUAL_WAIT_MS),
-        (Visit::SendLargeMessages, 1, USUAL_WAIT_MS),
-        (Visit::Stay, 1, USUAL_WAIT_MS),
-        (Visit::ComeOddly, 1, USUAL_WAIT_MS),
-        (Visit::BeToldAtOnce, 2, LONG_WAIT_MS),
-        (Visit::BePinged, 1, SHORT_WAIT_MS),
-        (Visit::EndBehindAMessage, 1, LONG_WAIT_MS),
+    for (scenario, connections, longest_wait) in [
+        (ClientScenario::EditAndSubscribe, 2, DEFAULT_WAIT_MS),
+        (
+            ClientScenario::FillAllSlots,
+            CONNECTION_COUNT,
+            DEFAULT_WAIT_MS,
+        ),
+        (ClientScenario::SendLargeMessages, 1, DEFAULT_WAIT_MS),
+        (ClientScenario::SendManyRequests, 1, DEFAULT_WAIT_MS),
+        (ClientScenario::ConnectWithoutHandshake, 1, DEFAULT_WAIT_MS),
+        (ClientScenario::ReceiveAtOnce, 2, LONG_WAIT_MS),
+        (ClientScenario::ReceivePing, 1, SHORT_WAIT_MS),
+        (ClientScenario::EndAfterAMessage, 1, LONG_WAIT_MS),
     ] {
         let listener = TcpListener::bind(&rt, "127.0.0.1:0").expect(&rt, "a port");
         let address = listener.local_addr().expect(&rt, "an address");
         let ended = Arc::new(alloc, AtomicBool::new(false)).expect(&rt, "out of memory");
         let seen = Arc::try_clone(&ended).expect(&rt, "one more");
-        let clients = thread::spawn(&rt, move || visit.carry_out(&rt, rt, alloc, address, &seen));
+        let clients = thread::spawn(&rt, move || scenario.run(&rt, rt, alloc, address, &seen));
         let clients = clients.expect(&rt, "a thread");
         let served = serve_clients(rt, &listener, connections, longest_wait);
         assert!(rt; served.is_ok());
@@ -353,38 +380,38 @@ fn clients_over_sockets(rt: HostRuntime) {
 }
 
 // Stops a server with one silent client and one subscriber, without a wait for either.
-fn be_stopped<R: Wait + Drop>(
+fn stop_server<R: Wait + Drop>(
     abort: &impl Abort,
     rt: HostRuntime,
     alloc: Global,
     address: SocketAddr,
     state: &ServerState<R>,
 ) {
-    let silent = connect(abort, rt, address);
-    let mut follower = follow(abort, rt, alloc, address);
-    edit(abort, rt, alloc, address, &mut follower);
+    let silent = connect_tcp(abort, rt, address);
+    let mut subscriber = open_subscriber(abort, rt, alloc, address);
+    edit_as_second_client(abort, rt, alloc, address, &mut subscriber);
     let began = now(abort, rt);
     state.stop();
-    expect_close(abort, &mut follower, CloseCode::Away);
-    be_soon(abort, rt, began);
+    expect_close(abort, &mut subscriber, CloseCode::Away);
+    assert_soon(abort, rt, began);
     drop(silent);
 }
 
 // A stopped server returns all passes, leaves no queue and keeps the stored operations.
 #[test]
-fn a_server_that_is_stopped(rt: HostRuntime) -> Result<(), Fail> {
+fn a_stopped_server_returns_its_passes_and_entries(rt: HostRuntime) -> Result<(), Fail> {
     let alloc = rt.alloc();
     let listener = TcpListener::bind(&rt, "127.0.0.1:0")?;
     let address = listener.local_addr()?;
     let (backend, mut host) = Backend::new(alloc, rt)?;
     let state = server(alloc, backend, true, LONG_WAIT_MS)?;
     let theirs = Arc::try_clone(&state)?;
-    let clients = thread::spawn(&rt, move || be_stopped(&rt, rt, alloc, address, &theirs))?;
+    let clients = thread::spawn(&rt, move || stop_server(&rt, rt, alloc, address, &theirs))?;
     let passes = listen_until_stopped(rt, alloc, &listener, &state, &mut host)?;
     clients.join(&rt);
     let passes_back = passes.len();
     let Ok(state) = Arc::try_unwrap(state) else {
-        return Err("somebody is still served".into());
+        return Err("sessions are still open".into());
     };
     let Ok(audit) = state.into_backend().close(host, passes) else {
         return Err("not closed".into());
@@ -396,7 +423,7 @@ fn a_server_that_is_stopped(rt: HostRuntime) -> Result<(), Fail> {
 }
 
 #[test]
-fn how_long_a_socket_waits(rt: HostRuntime) {
+fn sockets_have_their_timeouts(rt: HostRuntime) {
     let listener = TcpListener::bind(&rt, "127.0.0.1:0").expect(&rt, "a port");
     let address = listener.local_addr().expect(&rt, "an address");
     let stream = TcpStream::connect(&rt, address).expect(&rt, "a connection");

@@ -3,8 +3,8 @@
 ghost use Rattle.sdb_backend.specs.PassModel.{IsHostOfBackend, IsPassOfBackend};
 
 use crate::websocket_session::{
-    AWAY_FRAME, BADLY_FORMED, OPENING, SUBSCRIBE, SUBSCRIBED, TEXT, add, attend, attend_first,
-    clock_of, document, sent, told,
+    AWAY_FRAME, BADLY_FORMED, INIT, SUBSCRIBE, SUBSCRIBED, TEXT, add, client_frames, clock_of,
+    document_key, serve_client, serve_first_client, server_frames,
 };
 use sdb_backend::{Audit, Backend, Host, Pass};
 use std::alloc::Global;
@@ -19,7 +19,7 @@ struct Stream<'a> {
     bytes: &'a [u8],
     at_once: usize,
     calls: u64,
-    told: Vec<u8>,
+    written: Vec<u8>,
 }
 
 impl<'a> Stream<'a> {
@@ -28,7 +28,7 @@ impl<'a> Stream<'a> {
             bytes,
             at_once,
             calls,
-            told: Vec::new(alloc),
+            written: Vec::new(alloc),
         }
     }
 
@@ -45,15 +45,15 @@ impl<'a> Stream<'a> {
 impl Read for Stream<'_> {
     fn read(&mut self, buf: &mut [u8]) -> io::Result<usize> {
         self.call()?;
-        let room = buf.len().min(self.at_once);
-        self.bytes.read(&mut buf[..room])
+        let limit = buf.len().min(self.at_once);
+        self.bytes.read(&mut buf[..limit])
     }
 }
 
 impl Write for Stream<'_> {
     fn write(&mut self, buf: &[u8]) -> io::Result<usize> {
         self.call()?;
-        self.told.write(&buf[..buf.len().min(self.at_once)])
+        self.written.write(&buf[..buf.len().min(self.at_once)])
     }
 
     fn flush(&mut self) -> io::Result<()> {
@@ -67,7 +67,7 @@ const CREATE: &str =
 const CREATED: &str = r#"{"a":"op","c":"b","d":"1","seq":1,"src":"x","v":0}"#;
 
 // Closes the backend with its host and both passes, and returns the audit.
-fn ended<R: Wait + Drop>(
+fn close_backend<R: Wait + Drop>(
     rt: &impl Abort,
     alloc: Global,
     backend: Backend<R>,
@@ -89,15 +89,15 @@ fn ended<R: Wait + Drop>(
 }
 
 // Returns whether the document has one entry and no queue is open.
-fn is_made_once(rt: &impl Abort, alloc: Global, audit: &Audit) -> bool {
-    let key = document(rt, alloc);
+fn has_one_entry_and_no_queue(rt: &impl Abort, alloc: Global, audit: &Audit) -> bool {
+    let key = document_key(rt, alloc);
     let log = audit.log(&key).expect(rt, "a document");
     log.len() == 1 && audit.queues() == 0
 }
 
 // Returns whether one list is a prefix of the other: a close may follow the complete output.
-fn agree(whole: &[u8], told: &[u8]) -> bool {
-    whole.starts_with(told) || told.starts_with(whole)
+fn is_prefix_or_extension(whole: &[u8], written: &[u8]) -> bool {
+    whole.starts_with(written) || written.starts_with(whole)
 }
 
 // Returns whether a failing client receives a prefix of the output, a retry by another client is
@@ -112,24 +112,24 @@ fn is_stored_once<R: Wait + Drop + Copy>(
     let first = backend.enter(&mut host).expect(abort, "a pass");
     let second = backend.enter(&mut host).expect(abort, "a pass");
     let clock = clock_of(abort, alloc, &[]);
-    let (first, stream) = attend(&rt, alloc, clock, &backend, first, stream);
-    let create = sent(abort, alloc, &[(TEXT, CREATE)]);
+    let (first, stream) = serve_client(&rt, alloc, clock, &backend, first, stream);
+    let create = client_frames(abort, alloc, &[(TEXT, CREATE)]);
     let other = Stream::new(alloc, create.as_slice(), 4096, 100);
     let clock = clock_of(abort, alloc, &[]);
-    let (second, other) = attend(&rt, alloc, clock, &backend, second, other);
-    let audit = ended(abort, alloc, backend, host, first, second);
-    let whole = told(abort, alloc, &[OPENING, SUBSCRIBED, CREATED], &[]);
-    agree(whole.as_slice(), stream.told.as_slice())
-        && other.told.as_slice().ends_with(CREATED.as_bytes())
-        && is_made_once(abort, alloc, &audit)
+    let (second, other) = serve_client(&rt, alloc, clock, &backend, second, other);
+    let audit = close_backend(abort, alloc, backend, host, first, second);
+    let whole = server_frames(abort, alloc, &[INIT, SUBSCRIBED, CREATED], &[]);
+    is_prefix_or_extension(whole.as_slice(), stream.written.as_slice())
+        && other.written.as_slice().ends_with(CREATED.as_bytes())
+        && has_one_entry_and_no_queue(abort, alloc, &audit)
 }
 
 #[test]
-fn a_client_whose_stream_fails(rt: HostRuntime) {
+fn an_operation_is_stored_once_if_the_stream_fails(rt: HostRuntime) {
     let alloc = rt.alloc();
-    let sent = sent(&rt, alloc, &[(TEXT, SUBSCRIBE), (TEXT, CREATE)]);
-    for (at_once, most) in [(0, 8), (1, 360), (7, 100), (4096, 12)] {
-        for calls in 0..most {
+    let sent = client_frames(&rt, alloc, &[(TEXT, SUBSCRIBE), (TEXT, CREATE)]);
+    for (at_once, limit) in [(0, 8), (1, 360), (7, 100), (4096, 12)] {
+        for calls in 0..limit {
             let stream = Stream::new(alloc, sent.as_slice(), at_once, calls);
             assert!(rt;
                 is_stored_once(&rt, alloc, rt, stream),
@@ -152,16 +152,16 @@ fn long_text(rt: &impl Abort, alloc: Global, length: u16) -> Vec<u8> {
 
 // The client sends a message one byte at a time.
 #[test]
-fn a_message_takes_a_thousand_reads_at_most(rt: HostRuntime) {
+fn a_message_takes_at_most_a_thousand_reads(rt: HostRuntime) {
     let alloc = rt.alloc();
-    for (length, texts, behind) in [
-        (992, &[OPENING, BADLY_FORMED] as &[&str], &[] as &[u8]),
-        (993, &[OPENING], AWAY_FRAME),
+    for (length, texts, suffix) in [
+        (992, &[INIT, BADLY_FORMED] as &[&str], &[] as &[u8]),
+        (993, &[INIT], AWAY_FRAME),
     ] {
         let text = long_text(&rt, alloc, length);
         let stream = Stream::new(alloc, text.as_slice(), 1, u64::MAX);
-        let stream = attend_first(&rt, alloc, rt, clock_of(&rt, alloc, &[]), stream);
-        let wanted = told(&rt, alloc, texts, behind);
-        assert!(rt; stream.told.as_slice() == wanted.as_slice(), "{length}");
+        let stream = serve_first_client(&rt, alloc, rt, clock_of(&rt, alloc, &[]), stream);
+        let wanted = server_frames(&rt, alloc, texts, suffix);
+        assert!(rt; stream.written.as_slice() == wanted.as_slice(), "{length}");
     }
 }

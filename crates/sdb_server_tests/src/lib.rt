@@ -11,6 +11,6 @@ mod failing_streams;
 #[cfg(test)]
 mod line_session;
 #[cfg(test)]
-mod wakings;
+mod wakeups;
 #[cfg(test)]
 mod websocket_session;

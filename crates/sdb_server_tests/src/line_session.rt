@@ -11,12 +11,12 @@ use std::io::{ErrorKind, Read, Write};
 // An output that accepts seven bytes per call, and writes 0 bytes after so many calls, as with a
 // full disk.
 #[derive(Drop)]
-struct Output {
+struct FailingWriter {
     bytes: Vec<u8>,
     calls: usize,
 }
 
-impl io::Write for Output {
+impl io::Write for FailingWriter {
     fn write(&mut self, buf: &[u8]) -> io::Result<usize> {
         if self.calls == 0 {
             return Ok(0);
@@ -32,25 +32,25 @@ impl io::Write for Output {
 
 // An input that returns seven bytes per call and fails after so many calls.
 #[derive(Drop)]
-struct Input {
+struct FailingReader {
     bytes: &'static [u8],
     calls: usize,
 }
 
-impl io::Read for Input {
+impl io::Read for FailingReader {
     fn read(&mut self, buf: &mut [u8]) -> io::Result<usize> {
         if self.calls == 0 {
             return Err(io::Error::from(ErrorKind::ConnectionReset));
         }
         self.calls -= 1;
-        let room = buf.len().min(7);
-        self.bytes.read(&mut buf[..room])
+        let limit = buf.len().min(7);
+        self.bytes.read(&mut buf[..limit])
     }
 }
 
 const FETCH: &str = r#"{"a":"f","c":"b","d":"1"}"#;
 
-const WHOLE: &str =
+const COMPLETE_OUTPUT: &str =
     r#"{"a":"init","id":"s1","protocol":1,"protocolMinor":1,"type":"http://sharejs.org/types/JSONv0"}
 {"a":"f","c":"b","d":"1","data":{"type":null,"v":0}}
 "#;
@@ -59,25 +59,25 @@ const WHOLE: &str =
 // ended the run.
 fn run(alloc: Global, reads: usize, calls: usize) -> (Vec<u8>, Option<RunFault>) {
     let bytes = FETCH.as_bytes();
-    let mut reader = CountingReader::new(Input {
+    let mut reader = CountingReader::new(FailingReader {
         bytes,
         calls: reads,
     });
     let bytes = Vec::new(alloc);
-    let mut writer = CountingWriter::new(Output { bytes, calls });
+    let mut writer = CountingWriter::new(FailingWriter { bytes, calls });
     let clock = ListClock::new(Vec::new(alloc));
-    let ended = run_lines(alloc, &Table::new(alloc), clock, &mut reader, &mut writer);
-    (writer.stream.bytes, ended.err())
+    let outcome = run_lines(alloc, &Table::new(alloc), clock, &mut reader, &mut writer);
+    (writer.stream.bytes, outcome.err())
 }
 
 // Returns whether the run ends with this fault and the output is a prefix of the complete one.
 fn ends_with(alloc: Global, reads: usize, calls: usize, fault: RunFault) -> bool {
-    let (written, ended) = run(alloc, reads, calls);
-    ended == Some(fault) && WHOLE.as_bytes().starts_with(written.as_slice())
+    let (written, outcome) = run(alloc, reads, calls);
+    outcome == Some(fault) && COMPLETE_OUTPUT.as_bytes().starts_with(written.as_slice())
 }
 
 #[test]
-fn streams_that_fail(rt: HostRuntime) {
+fn a_failed_stream_ends_the_run_after_a_prefix(rt: HostRuntime) {
     for calls in 0..20 {
         assert!(rt;
             ends_with(rt.alloc(), 100, calls, RunFault::WriteFailed),
@@ -91,12 +91,12 @@ fn streams_that_fail(rt: HostRuntime) {
         );
     }
     let (written, fault) = run(rt.alloc(), 100, 100);
-    assert!(rt; fault.is_none() && written.as_slice() == WHOLE.as_bytes());
+    assert!(rt; fault.is_none() && written.as_slice() == COMPLETE_OUTPUT.as_bytes());
 }
 
 // Three submissions, the second with a clock reading below that of the first, and fetches by
 // timestamp.
-const MOMENTS: &str =
+const TIMESTAMP_LINES: &str =
     r#"{"a":"op","c":"b","d":"1","src":"w","seq":1,"create":{"type":"json0","data":{"n":0}}}
 {"a":"op","c":"b","d":"1","src":"w","seq":2,"op":[{"p":["n"],"na":1}]}
 {"a":"op","c":"b","d":"1","src":"w","seq":3,"op":[{"p":["n"],"na":1}]}
@@ -107,7 +107,7 @@ const MOMENTS: &str =
 {"a":"nt","c":"b","d":"1","id":5}
 "#;
 
-const READS: &str = r#"{"a":"op","c":"b","d":"1","seq":3,"src":"w","v":2}
+const TIMESTAMP_ANSWERS: &str = r#"{"a":"op","c":"b","d":"1","seq":3,"src":"w","v":2}
 {"a":"nt","data":{"n":1},"id":1,"type":"http://sharejs.org/types/JSONv0","v":2}
 {"a":"nt","id":2,"type":null,"v":0}
 {"a":"nt","data":{"n":1},"id":3,"type":"http://sharejs.org/types/JSONv0","v":2}
@@ -116,7 +116,7 @@ const READS: &str = r#"{"a":"op","c":"b","d":"1","seq":3,"src":"w","v":2}
 "#;
 
 // Returns the output for these lines with this clock.
-fn written_by(alloc: Global, clock: ListClock, lines: &str) -> Vec<u8> {
+fn output_of(alloc: Global, clock: ListClock, lines: &str) -> Vec<u8> {
     let mut reader = CountingReader::new(lines.as_bytes());
     let mut writer = CountingWriter::new(Vec::new(alloc));
     let _ = run_lines(alloc, &Table::new(alloc), clock, &mut reader, &mut writer);
@@ -124,23 +124,23 @@ fn written_by(alloc: Global, clock: ListClock, lines: &str) -> Vec<u8> {
 }
 
 #[test]
-fn the_same_is_written_by_a_program_that_ends(rt: HostRuntime) {
+fn run_lines_at_exit_writes_the_same(rt: HostRuntime) {
     let clock = ListClock::new(Vec::new(rt.alloc()));
-    let wanted = written_by(rt.alloc(), clock, MOMENTS);
-    let mut reader = CountingReader::new(MOMENTS.as_bytes());
+    let wanted = output_of(rt.alloc(), clock, TIMESTAMP_LINES);
+    let mut reader = CountingReader::new(TIMESTAMP_LINES.as_bytes());
     let mut writer = CountingWriter::new(Vec::new(rt.alloc()));
     let (table, clock) = (Table::new(rt.alloc()), ListClock::new(Vec::new(rt.alloc())));
-    let ended = run_lines_at_exit(rt.alloc(), &table, clock, &mut reader, &mut writer);
-    assert!(rt; ended.is_ok() && writer.stream.as_slice() == wanted.as_slice());
+    let outcome = run_lines_at_exit(rt.alloc(), &table, clock, &mut reader, &mut writer);
+    assert!(rt; outcome.is_ok() && writer.stream.as_slice() == wanted.as_slice());
 }
 
 #[test]
-fn documents_at_moments(rt: HostRuntime) {
+fn documents_are_fetched_at_timestamps(rt: HostRuntime) {
     let mut moments = Vec::new(rt.alloc());
     for milliseconds in [100, 90, 200] {
         let moment = Moment::new(milliseconds).expect(&rt, "a moment");
         moments.push(moment).expect(&rt, "out of memory");
     }
-    let written = written_by(rt.alloc(), ListClock::new(moments), MOMENTS);
-    assert!(rt; written.as_slice().ends_with(READS.as_bytes()));
+    let written = output_of(rt.alloc(), ListClock::new(moments), TIMESTAMP_LINES);
+    assert!(rt; written.as_slice().ends_with(TIMESTAMP_ANSWERS.as_bytes()));
 }

@@ -20,21 +20,21 @@ use tungstenite::{NoMask, Role, WebSocket};
 struct Peer<'a> {
     before: u64,
     bytes: &'a [u8],
-    behind: u64,
+    after: u64,
     wakes: bool,
     is_woken: bool,
-    told: Vec<u8>,
+    written: Vec<u8>,
 }
 
 impl<'a> Peer<'a> {
-    fn new(alloc: Global, before: u64, bytes: &'a [u8], behind: u64, wakes: bool) -> Peer<'a> {
+    fn new(alloc: Global, before: u64, bytes: &'a [u8], after: u64, wakes: bool) -> Peer<'a> {
         Peer {
             before,
             bytes,
-            behind,
+            after,
             wakes,
             is_woken: false,
-            told: Vec::new(alloc),
+            written: Vec::new(alloc),
         }
     }
 }
@@ -53,8 +53,8 @@ impl Read for Peer<'_> {
         if count > 0 {
             return Ok(count);
         }
-        if self.behind > 0 {
-            self.behind -= 1;
+        if self.after > 0 {
+            self.after -= 1;
             return Err(io::Error::from(ErrorKind::WouldBlock));
         }
         Err(io::Error::from(ErrorKind::ConnectionReset))
@@ -63,7 +63,7 @@ impl Read for Peer<'_> {
 
 impl Write for Peer<'_> {
     fn write(&mut self, buf: &[u8]) -> io::Result<usize> {
-        self.told.write(buf)
+        self.written.write(buf)
     }
 
     fn flush(&mut self) -> io::Result<()> {
@@ -71,7 +71,7 @@ impl Write for Peer<'_> {
     }
 }
 
-pub(crate) const OPENING: &str =
+pub(crate) const INIT: &str =
     r#"{"a":"init","id":"s1","protocol":1,"protocolMinor":1,"type":"http://sharejs.org/types/JSONv0"}"#;
 
 pub(crate) const SUBSCRIBE: &str = r#"{"a":"s","c":"b","d":"1","v":null}"#;
@@ -113,7 +113,7 @@ fn add_frame(rt: &impl Abort, frames: &mut Vec<u8>, head: u8, is_sent: bool, pay
 }
 
 // Returns one frame for each message, as a client sends them.
-pub(crate) fn sent(rt: &impl Abort, alloc: Global, messages: &[(u8, &str)]) -> Vec<u8> {
+pub(crate) fn client_frames(rt: &impl Abort, alloc: Global, messages: &[(u8, &str)]) -> Vec<u8> {
     let mut frames = Vec::new(alloc);
     for (head, text) in messages {
         add_frame(rt, &mut frames, *head, true, text);
@@ -122,19 +122,24 @@ pub(crate) fn sent(rt: &impl Abort, alloc: Global, messages: &[(u8, &str)]) -> V
 }
 
 // Returns a text frame for each text, as a server sends them, followed by these bytes.
-pub(crate) fn told(rt: &impl Abort, alloc: Global, texts: &[&str], behind: &[u8]) -> Vec<u8> {
+pub(crate) fn server_frames(
+    rt: &impl Abort,
+    alloc: Global,
+    texts: &[&str],
+    after: &[u8],
+) -> Vec<u8> {
     let mut frames = Vec::new(alloc);
     for text in texts {
         add_frame(rt, &mut frames, TEXT, false, text);
     }
-    add(rt, &mut frames, behind);
+    add(rt, &mut frames, after);
     frames
 }
 
 // Returns a clock that reads these milliseconds in order, and then 0.
-pub(crate) fn clock_of(rt: &impl Abort, alloc: Global, told: &[u64]) -> ListClock {
+pub(crate) fn clock_of(rt: &impl Abort, alloc: Global, readings: &[u64]) -> ListClock {
     let mut moments = Vec::new(alloc);
-    for milliseconds in told {
+    for milliseconds in readings {
         let moment = Moment::saturating_new(*milliseconds);
         moments.push(moment).expect(rt, "out of memory");
     }
@@ -142,7 +147,7 @@ pub(crate) fn clock_of(rt: &impl Abort, alloc: Global, told: &[u64]) -> ListCloc
 }
 
 // Serves a client with the pass and this clock; returns the pass and the client's stream.
-pub(crate) fn attend<R: Wait + Drop, S: Read + Write + Drop>(
+pub(crate) fn serve_client<R: Wait + Drop, S: Read + Write + Drop>(
     rt: &R,
     alloc: Global,
     clock: ListClock,
@@ -161,7 +166,7 @@ pub(crate) fn attend<R: Wait + Drop, S: Read + Write + Drop>(
 }
 
 // Serves the first client of a new backend with this clock; returns the client's stream.
-pub(crate) fn attend_first<R: Wait + Drop + Copy, S: Read + Write + Drop>(
+pub(crate) fn serve_first_client<R: Wait + Drop + Copy, S: Read + Write + Drop>(
     abort: &impl Abort,
     alloc: Global,
     rt: R,
@@ -170,14 +175,14 @@ pub(crate) fn attend_first<R: Wait + Drop + Copy, S: Read + Write + Drop>(
 ) -> S {
     let (backend, mut host) = Backend::new(alloc, rt).expect(abort, "out of memory");
     let pass = backend.enter(&mut host).expect(abort, "a pass");
-    attend(&rt, alloc, clock, &backend, pass, stream).1
+    serve_client(&rt, alloc, clock, &backend, pass, stream).1
 }
 
 // A wake-up counts neither as a silent read nor as a message.
 #[test]
-fn silent_clients(rt: HostRuntime) {
+fn a_silent_client_is_pinged_and_then_closed(rt: HostRuntime) {
     let alloc = rt.alloc();
-    for (before, bytes, behind, wakes, wanted) in [
+    for (before, bytes, after, wakes, wanted) in [
         (0, &[] as &[u8], 2_999, false, &[] as &[u8]),
         (0, &[], 3_000, false, PING_FRAME),
         (0, &[], 5_999, false, PING_FRAME),
@@ -191,12 +196,12 @@ fn silent_clients(rt: HostRuntime) {
         (0, &[], 6_000, true, PING_AND_AWAY),
     ] {
         let clock = clock_of(&rt, alloc, &[]);
-        let peer = Peer::new(alloc, before, bytes, behind, wakes);
-        let peer = attend_first(&rt, alloc, rt, clock, peer);
-        let wanted = told(&rt, alloc, &[OPENING], wanted);
+        let peer = Peer::new(alloc, before, bytes, after, wakes);
+        let peer = serve_first_client(&rt, alloc, rt, clock, peer);
+        let wanted = server_frames(&rt, alloc, &[INIT], wanted);
         assert!(rt;
-            peer.told.as_slice() == wanted.as_slice(),
-            "{before} and {behind}, {wakes}"
+            peer.written.as_slice() == wanted.as_slice(),
+            "{before} and {after}, {wakes}"
         );
     }
 }
@@ -207,24 +212,24 @@ const CREATE: &str =
 const ADD: &str =
     r#"{"a":"op","c":"b","d":"1","op":[{"na":1,"p":["n"]}],"seq":2,"src":"x","v":null}"#;
 
-const READ: &str = r#"{"a":"nt","c":"b","d":"1","id":1,"ts":100}"#;
+const FETCH_AT_100: &str = r#"{"a":"nt","c":"b","d":"1","id":1,"ts":100}"#;
 
 // The same request as a binary and as a text message.
-const TWICE: &[(u8, &str)] = &[(BINARY, SUBSCRIBE), (TEXT, SUBSCRIBE)];
+const BINARY_AND_TEXT: &[(u8, &str)] = &[(BINARY, SUBSCRIBE), (TEXT, SUBSCRIBE)];
 
-const TOLD_OF_TWICE: &[&str] = &[OPENING, BADLY_FORMED, SUBSCRIBED];
+const ANSWERS_TO_BINARY_AND_TEXT: &[&str] = &[INIT, BADLY_FORMED, SUBSCRIBED];
 
 // An operation, a binary message, another operation, and a fetch by timestamp.
-const AT_MOMENTS: &[(u8, &str)] = &[
+const MESSAGES_AT_MOMENTS: &[(u8, &str)] = &[
     (TEXT, CREATE),
     (BINARY, SUBSCRIBE),
     (TEXT, ADD),
-    (TEXT, READ),
+    (TEXT, FETCH_AT_100),
 ];
 
 // The last operation is later than the timestamp of the fetch.
-const TOLD_AT_MOMENTS: &[&str] = &[
-    OPENING,
+const ANSWERS_AT_MOMENTS: &[&str] = &[
+    INIT,
     r#"{"a":"op","c":"b","d":"1","seq":1,"src":"x","v":0}"#,
     BADLY_FORMED,
     r#"{"a":"op","c":"b","d":"1","seq":2,"src":"x","v":1}"#,
@@ -234,29 +239,29 @@ const TOLD_AT_MOMENTS: &[&str] = &[
 // A binary message is refused, but the session reads the clock for it too. In the second row it
 // gets the moment 90.
 #[test]
-fn binary_messages_and_moments(rt: HostRuntime) {
+fn a_binary_message_is_refused_and_reads_the_clock(rt: HostRuntime) {
     let alloc = rt.alloc();
     for (moments, messages, texts) in [
-        (&[] as &[u64], TWICE, TOLD_OF_TWICE),
-        (&[100, 90, 200], AT_MOMENTS, TOLD_AT_MOMENTS),
+        (&[] as &[u64], BINARY_AND_TEXT, ANSWERS_TO_BINARY_AND_TEXT),
+        (&[100, 90, 200], MESSAGES_AT_MOMENTS, ANSWERS_AT_MOMENTS),
     ] {
-        let sent = sent(&rt, alloc, messages);
+        let sent = client_frames(&rt, alloc, messages);
         let clock = clock_of(&rt, alloc, moments);
         let peer = Peer::new(alloc, 0, sent.as_slice(), 1, false);
-        let peer = attend_first(&rt, alloc, rt, clock, peer);
-        let wanted = told(&rt, alloc, texts, &[]);
-        assert!(rt; peer.told.as_slice() == wanted.as_slice());
+        let peer = serve_first_client(&rt, alloc, rt, clock, peer);
+        let wanted = server_frames(&rt, alloc, texts, &[]);
+        assert!(rt; peer.written.as_slice() == wanted.as_slice());
     }
 }
 
 // The system clock counts milliseconds since the beginning of 1970.
 #[test]
-fn the_clock_of_the_machine(rt: HostRuntime) {
+fn the_system_clock_counts_milliseconds_since_1970(rt: HostRuntime) {
     let milliseconds = SystemClock::new(&rt).now().milliseconds();
     assert!(rt; milliseconds > 1_700_000_000_000 && milliseconds < 17_000_000_000_000);
 }
 
-pub(crate) fn document(rt: &impl Abort, alloc: Global) -> Key {
+pub(crate) fn document_key(rt: &impl Abort, alloc: Global) -> Key {
     Key {
         collection: String::from_str(alloc, "b").expect(rt, "out of memory"),
         id: String::from_str(alloc, "1").expect(rt, "out of memory"),
@@ -264,7 +269,7 @@ pub(crate) fn document(rt: &impl Abort, alloc: Global) -> Key {
 }
 
 // Subscribes at the current version, and returns the queue.
-fn opened<R: Wait + Drop>(
+fn open_queue<R: Wait + Drop>(
     rt: &impl Abort,
     backend: &Backend<R>,
     pass: &mut Pass,
@@ -295,21 +300,21 @@ fn is_open<R: Wait + Drop>(
 fn first_queue<R: Wait + Drop>(abort: &impl Abort, alloc: Global, rt: R, key: &Key) -> SubId {
     let (backend, mut host) = Backend::new(alloc, rt).expect(abort, "out of memory");
     let mut pass = backend.enter(&mut host).expect(abort, "a pass");
-    opened(abort, &backend, &mut pass, key)
+    open_queue(abort, &backend, &mut pass, key)
 }
 
 // The queue of the session is closed, and a new one gets another number.
 #[test]
-fn a_session_that_has_ended_has_no_queue(rt: HostRuntime) {
-    let (alloc, key) = (rt.alloc(), document(&rt, rt.alloc()));
+fn an_ended_session_leaves_no_queue(rt: HostRuntime) {
+    let (alloc, key) = (rt.alloc(), document_key(&rt, rt.alloc()));
     let first = first_queue(&rt, alloc, rt, &key);
-    let sent = sent(&rt, alloc, &[(TEXT, SUBSCRIBE)]);
+    let sent = client_frames(&rt, alloc, &[(TEXT, SUBSCRIBE)]);
     let (backend, mut host) = Backend::new(alloc, rt).expect(&rt, "out of memory");
     let pass = backend.enter(&mut host).expect(&rt, "a pass");
     let peer = Peer::new(alloc, 0, sent.as_slice(), 1, false);
     let clock = clock_of(&rt, alloc, &[]);
-    let (mut pass, _) = attend(&rt, alloc, clock, &backend, pass, peer);
+    let (mut pass, _) = serve_client(&rt, alloc, clock, &backend, pass, peer);
     let is_gone = !is_open(&rt, &backend, &mut pass, &key, first);
-    let second = opened(&rt, &backend, &mut pass, &key);
+    let second = open_queue(&rt, &backend, &mut pass, &key);
     assert!(rt; is_gone && second != first && is_open(&rt, &backend, &mut pass, &key, second));
 }

@@ -2,7 +2,7 @@
 ghost use Rattle.std.specs.Prelude.{◌≡◌};
 ghost use Rattle.sdb_backend.specs.PassModel.{pass_number, IsHostOfBackend, IsPassOfBackend};
 
-use crate::parts::{adding, counted, creating, key, stored, submission};
+use crate::helpers::{counter_of, create_counter, increment, key, stored_version, submission};
 use sdb_backend::{
     Audit, Backend, CloseError, CloseRefused, Host, Pass, submit_is_atomic, take_is_fifo,
 };
@@ -17,18 +17,18 @@ use std::sync::atomic::{AtomicU64, Ordering};
 use std::thread;
 
 // The number of edits of each thread.
-const EDITS: u64 = 10;
+const EDIT_COUNT: u64 = 10;
 
 // The number of edits of each thread when a queue receives them.
-const MANY: u64 = 100;
+const LONG_EDIT_COUNT: u64 = 100;
 
 // The maximum number of entries per call of `take`, and the number of calls.
-const AT_ONCE: u64 = 7;
+const TAKE_LIMIT: u64 = 7;
 
-const TAKES: u64 = 29;
+const TAKE_COUNT: u64 = 29;
 
 // Returns a submission of the pass, whose source is x and the number of the pass.
-fn through(
+fn submission_of_pass(
     rt: &impl Abort,
     alloc: Global,
     pass: &Pass,
@@ -45,14 +45,14 @@ fn through(
 
 // A backend with its host and two passes.
 #[derive(Drop)]
-struct Room<R: Wait> {
+struct TestBackend<R: Wait> {
     backend: Backend<R>,
     host: Host,
     first: Pass,
     second: Pass,
 }
 
-fn opened<R: Wait + Drop>(abort: &impl Abort, alloc: Global, rt: R) -> Room<R>
+fn open_backend<R: Wait + Drop>(abort: &impl Abort, alloc: Global, rt: R) -> TestBackend<R>
     ensures host { IsHostOfBackend result.host result.backend }
     ensures first { IsPassOfBackend result.first result.backend }
     ensures second { IsPassOfBackend result.second result.backend }
@@ -60,7 +60,7 @@ fn opened<R: Wait + Drop>(abort: &impl Abort, alloc: Global, rt: R) -> Room<R>
     let (backend, mut host) = Backend::new(alloc, rt).expect(abort, "out of memory");
     let first = backend.enter(&mut host).expect(abort, "a pass");
     let second = backend.enter(&mut host).expect(abort, "a pass");
-    Room {
+    TestBackend {
         backend,
         host,
         first,
@@ -79,7 +79,7 @@ fn create<R: Wait + Drop>(
     requires { IsPassOfBackend pass.old backend.now }
     ensures { IsPassOfBackend pass.new backend.now }
 {
-    let submission = through(rt, alloc, pass, 1, None, creating(rt, alloc));
+    let submission = submission_of_pass(rt, alloc, pass, 1, None, create_counter(rt, alloc));
     let reply = submit(
         alloc,
         backend,
@@ -89,11 +89,11 @@ fn create<R: Wait + Drop>(
         Moment::zero(),
         &NoGate,
     );
-    assert!(rt; stored(&reply) == Some((0, 0)));
+    assert!(rt; stored_version(&reply) == Some((0, 0)));
 }
 
 // Fetches the document and returns its number.
-fn fetched<R: Wait + Drop>(
+fn fetch_counter<R: Wait + Drop>(
     rt: &impl Abort,
     backend: &Backend<R>,
     pass: &mut Pass,
@@ -103,7 +103,7 @@ fn fetched<R: Wait + Drop>(
     ensures { IsPassOfBackend pass.new backend.now }
 {
     let fetched = backend.fetch(pass, key).expect(rt, "out of memory");
-    counted(fetched.snapshot.as_ref())
+    counter_of(fetched.snapshot.as_ref())
 }
 
 // Adds 1 at this moment.
@@ -119,14 +119,14 @@ fn add_at<R: Wait + Drop>(
     requires { IsPassOfBackend pass.old backend.now }
     ensures { IsPassOfBackend pass.new backend.now }
 {
-    let submission = through(rt, alloc, pass, seq, None, adding(rt, alloc, 1));
+    let submission = submission_of_pass(rt, alloc, pass, seq, None, increment(rt, alloc, 1));
     let now = Moment::new(milliseconds).expect(rt, "a moment");
     let reply = submit(alloc, backend, pass, key, &submission, now, &NoGate);
-    assert!(rt; stored(&reply).is_some());
+    assert!(rt; stored_version(&reply).is_some());
 }
 
 // Returns the version at a moment and the number of the document there.
-fn at<R: Wait + Drop>(
+fn fetch_at_moment<R: Wait + Drop>(
     rt: &impl Abort,
     backend: &Backend<R>,
     pass: &mut Pass,
@@ -139,26 +139,26 @@ fn at<R: Wait + Drop>(
     let fetched = backend
         .snapshot_at_time(pass, key, moment)
         .expect(rt, "out of memory");
-    (fetched.version, counted(fetched.snapshot.as_ref()))
+    (fetched.version, counter_of(fetched.snapshot.as_ref()))
 }
 
 // An old version is replayed without the lock; the present one is a clone of the snapshot.
 #[test]
-fn documents_at_moments(rt: HostRuntime) {
+fn documents_are_fetched_at_moments(rt: HostRuntime) {
     let alloc = rt.alloc();
-    let Room {
+    let TestBackend {
         backend,
         first: mut pass,
         ..
-    } = opened(&rt, alloc, rt);
+    } = open_backend(&rt, alloc, rt);
     let key = key(&rt, alloc, "1");
     create(&rt, alloc, &backend, &mut pass, &key);
     add_at(&rt, alloc, &backend, &mut pass, &key, 2, 100);
     add_at(&rt, alloc, &backend, &mut pass, &key, 3, 200);
-    let first = at(&rt, &backend, &mut pass, &key, Moment::new(99));
-    let second = at(&rt, &backend, &mut pass, &key, Moment::new(199));
-    let third = at(&rt, &backend, &mut pass, &key, Moment::new(200));
-    let present = at(&rt, &backend, &mut pass, &key, None);
+    let first = fetch_at_moment(&rt, &backend, &mut pass, &key, Moment::new(99));
+    let second = fetch_at_moment(&rt, &backend, &mut pass, &key, Moment::new(199));
+    let third = fetch_at_moment(&rt, &backend, &mut pass, &key, Moment::new(200));
+    let present = fetch_at_moment(&rt, &backend, &mut pass, &key, None);
     assert!(rt;
         first == (1, Some(0)) && second == (2, Some(1)) && third == (3, Some(2)) && present == third
     );
@@ -167,12 +167,12 @@ fn documents_at_moments(rt: HostRuntime) {
 // A gate that records the number of the last try. It blocks the first try until another submission
 // is answered, with a bounded wait.
 #[derive(Drop)]
-struct Held<'a> {
+struct BlockingGate<'a> {
     answered: &'a AtomicU64,
     last: &'a AtomicU64,
 }
 
-impl Gate for Held<'_> {
+impl Gate for BlockingGate<'_> {
     fn before_commit(&self, try_no: u64) {
         self.last.store(try_no, Ordering::SeqCst);
         if try_no == 1 {
@@ -193,7 +193,7 @@ fn wait_for(number: &AtomicU64, wanted: u64) {
 
 // Submits while the other submission is blocked, and then releases it. Returns the pass, and the
 // version with the number of missed entries.
-fn submit_quick<R: Wait + Drop>(
+fn submit_unblocked<R: Wait + Drop>(
     alloc: Global,
     backend: &Backend<R>,
     mut pass: Pass,
@@ -217,11 +217,11 @@ fn submit_quick<R: Wait + Drop>(
         &NoGate,
     );
     answered.store(1, Ordering::SeqCst);
-    (pass, stored(&reply))
+    (pass, stored_version(&reply))
 }
 
 // Submits with a gate that blocks the first try until the other submission is answered.
-fn submit_held<R: Wait + Drop>(
+fn submit_blocked<R: Wait + Drop>(
     alloc: Global,
     backend: &Backend<R>,
     mut pass: Pass,
@@ -234,7 +234,7 @@ fn submit_held<R: Wait + Drop>(
     requires by { submission.now.by ≡ pass_number pass }
     ensures { IsPassOfBackend result.0 backend.now }
 {
-    let gate = Held { answered, last };
+    let gate = BlockingGate { answered, last };
     let reply = submit(
         alloc,
         backend,
@@ -244,23 +244,23 @@ fn submit_held<R: Wait + Drop>(
         Moment::zero(),
         &gate,
     );
-    (pass, stored(&reply))
+    (pass, stored_version(&reply))
 }
 
 #[test]
-fn nobody_waits_for_a_submission_that_is_held(rt: HostRuntime) {
+fn a_blocked_submission_blocks_no_other(rt: HostRuntime) {
     let alloc = rt.alloc();
-    let Room {
+    let TestBackend {
         backend,
         first: mut slow,
         second: quick,
         ..
-    } = opened(&rt, alloc, rt);
+    } = open_backend(&rt, alloc, rt);
     let key = key(&rt, alloc, "1");
     create(&rt, alloc, &backend, &mut slow, &key);
-    let (ten, five) = (adding(&rt, alloc, 10), adding(&rt, alloc, 5));
-    let first = through(&rt, alloc, &slow, 2, Some(1), ten);
-    let second = through(&rt, alloc, &quick, 1, Some(1), five);
+    let (ten, five) = (increment(&rt, alloc, 10), increment(&rt, alloc, 5));
+    let first = submission_of_pass(&rt, alloc, &slow, 2, Some(1), ten);
+    let second = submission_of_pass(&rt, alloc, &quick, 1, Some(1), five);
     let (answered, last) = (AtomicU64::new(0), AtomicU64::new(0));
     let ((mut slow, late), (_quick, early)) = thread::join(
         &rt,
@@ -268,22 +268,22 @@ fn nobody_waits_for_a_submission_that_is_held(rt: HostRuntime) {
             requires pass { IsPassOfBackend slow backend }
             requires by { first.by ≡ pass_number slow }
             ensures { IsPassOfBackend result.0 backend }
-        { submit_held(alloc, &backend, slow, &key, &first, &answered, &last) },
+        { submit_blocked(alloc, &backend, slow, &key, &first, &answered, &last) },
         || -> (Pass, Option<(u64, usize)>)
             requires pass { IsPassOfBackend quick backend }
             requires by { second.by ≡ pass_number quick }
             ensures { IsPassOfBackend result.0 backend }
-        { submit_quick(alloc, &backend, quick, &key, &second, &answered, &last) },
+        { submit_unblocked(alloc, &backend, quick, &key, &second, &answered, &last) },
     );
     assert!(rt;
         early == Some((1, 0))
             && last.load(Ordering::SeqCst) == 2
             && late == Some((2, 1))
-            && fetched(&rt, &backend, &mut slow, &key) == Some(15)
+            && fetch_counter(&rt, &backend, &mut slow, &key) == Some(15)
     );
 }
 
-fn is_of(entry: &Entry, source: &str, seq: u64) -> bool {
+fn is_entry_of(entry: &Entry, source: &str, seq: u64) -> bool {
     entry.arrived().src() == source && entry.arrived().seq() == seq
 }
 
@@ -305,11 +305,11 @@ fn read_back<R: Wait + Drop>(
         .ops_from(pass, key, version)
         .expect(rt, "out of memory");
     let entry = entries.first().expect(rt, "an entry");
-    assert!(rt; is_of(entry, submission.src(), submission.seq()));
+    assert!(rt; is_entry_of(entry, submission.src(), submission.seq()));
 }
 
 // Stores the submission and reads it back.
-fn edit<R: Wait + Drop>(
+fn submit_edit<R: Wait + Drop>(
     rt: &impl Abort,
     alloc: Global,
     backend: &Backend<R>,
@@ -323,7 +323,7 @@ fn edit<R: Wait + Drop>(
 {
     let now = Moment::zero();
     let reply = submit(alloc, backend, pass, key, submission, now, &NoGate);
-    let (version, _) = stored(&reply).expect(rt, "stored");
+    let (version, _) = stored_version(&reply).expect(rt, "stored");
     read_back(rt, backend, pass, key, submission, version);
     reply
 }
@@ -340,9 +340,16 @@ fn edit_all<R: Wait + Drop>(
     ensures { IsPassOfBackend result.0 backend.now }
 {
     let mut replies = Vec::new(alloc);
-    for seq in 2..2 + EDITS {
-        let submission = through(rt, alloc, &pass, seq, Some(1), adding(rt, alloc, 1));
-        let reply = edit(rt, alloc, backend, &mut pass, key, &submission);
+    for seq in 2..2 + EDIT_COUNT {
+        let submission = submission_of_pass(
+            rt,
+            alloc,
+            &pass,
+            seq,
+            Some(1),
+            increment(rt, alloc, 1),
+        );
+        let reply = submit_edit(rt, alloc, backend, &mut pass, key, &submission);
         replies.push(reply).expect(rt, "out of memory");
     }
     (pass, replies)
@@ -354,56 +361,62 @@ fn assert_missed(rt: &impl Abort, log: &Log, entries: &[Entry]) {
     for entry in entries {
         version = version.saturating_add(1);
         let stored = log.get(version).expect(rt, "an entry").arrived();
-        assert!(rt; is_of(entry, stored.src(), stored.seq()), "{version}");
+        assert!(rt; is_entry_of(entry, stored.src(), stored.seq()), "{version}");
     }
 }
 
 // Checks that the log has the submission at the version of the reply, after the entries that the
 // reply lists as missed.
-fn assert_told(rt: &impl Abort, log: &Log, source: &str, seq: u64, reply: &Reply) {
+fn assert_reply(rt: &impl Abort, log: &Log, source: &str, seq: u64, reply: &Reply) {
     let Reply::Stored { v, missed } = reply else {
         panic!(rt; "not stored");
     };
     let entry = log.get(*v).expect(rt, "an entry");
-    assert!(rt; is_of(entry, source, seq) && missed.len() as u64 + 1 == *v);
+    assert!(rt; is_entry_of(entry, source, seq) && missed.len() as u64 + 1 == *v);
     assert_missed(rt, log, missed);
 }
 
 // Checks each reply against the log.
-fn assert_all_told(rt: &impl Abort, log: &Log, source: &str, replies: &[Reply]) {
+fn assert_replies(rt: &impl Abort, log: &Log, source: &str, replies: &[Reply]) {
     let mut seq: u64 = 1;
     for reply in replies {
         seq = seq.saturating_add(1);
-        assert_told(rt, log, source, seq, reply);
+        assert_reply(rt, log, source, seq, reply);
     }
-    assert!(rt; replies.len() as u64 == EDITS);
+    assert!(rt; replies.len() as u64 == EDIT_COUNT);
 }
 
 // Replays the log and returns the number of the document.
-fn replayed(rt: &impl Abort, log: &Log) -> Option<i64> {
+fn replay_counter(rt: &impl Abort, log: &Log) -> Option<i64> {
     let document = log.replay(log.len()).expect(rt, "out of memory");
-    counted(document.as_ref())
+    counter_of(document.as_ref())
 }
 
 // Checks that the log has the edits of both threads, and checks each reply against it.
-fn assert_edited(rt: &impl Abort, audit: &Audit, key: &Key, ones: &[Reply], twos: &[Reply]) {
+fn assert_edits_and_replies(
+    rt: &impl Abort,
+    audit: &Audit,
+    key: &Key,
+    ones: &[Reply],
+    twos: &[Reply],
+) {
     let keys = audit.documents().expect(rt, "out of memory");
     assert!(rt; keys.len() == 1);
     let log = audit.log(key).expect(rt, "a log");
-    assert!(rt; log.len() == 1 + 2 * EDITS && replayed(rt, log) == Some(20));
-    assert_all_told(rt, log, "x1", ones);
-    assert_all_told(rt, log, "x2", twos);
+    assert!(rt; log.len() == 1 + 2 * EDIT_COUNT && replay_counter(rt, log) == Some(20));
+    assert_replies(rt, log, "x1", ones);
+    assert_replies(rt, log, "x2", twos);
 }
 
 #[test]
-fn what_threads_store_is_read_back(rt: HostRuntime) {
+fn edits_of_two_threads_are_read_back(rt: HostRuntime) {
     let alloc = rt.alloc();
-    let Room {
+    let TestBackend {
         backend,
         host,
         mut first,
         second,
-    } = opened(&rt, alloc, rt);
+    } = open_backend(&rt, alloc, rt);
     let key = key(&rt, alloc, "1");
     create(&rt, alloc, &backend, &mut first, &key);
     let ((first, ones), (second, twos)) = thread::join(
@@ -417,12 +430,12 @@ fn what_threads_store_is_read_back(rt: HostRuntime) {
             ensures { IsPassOfBackend result.0 backend }
         { edit_all(&rt, alloc, &backend, second, &key) },
     );
-    let audit = closed(&rt, alloc, backend, host, first, second);
-    assert_edited(&rt, &audit, &key, ones.as_slice(), twos.as_slice());
+    let audit = close_after_refusal(&rt, alloc, backend, host, first, second);
+    assert_edits_and_replies(&rt, &audit, &key, ones.as_slice(), twos.as_slice());
 }
 
 // Closes the backend, first without one of the passes, which is refused. Returns the audit.
-fn closed<R: Wait + Drop>(
+fn close_after_refusal<R: Wait + Drop>(
     rt: &impl Abort,
     alloc: Global,
     backend: Backend<R>,
@@ -482,22 +495,22 @@ fn assert_listed(rt: &impl Abort, audit: &Audit, ids: &[&str]) {
 }
 
 #[test]
-fn the_documents_of_all_shards_are_listed_in_order(rt: HostRuntime) {
+fn documents_of_all_shards_are_listed_in_order(rt: HostRuntime) {
     let alloc = rt.alloc();
-    let Room {
+    let TestBackend {
         backend,
         host,
         mut first,
         second,
-    } = opened(&rt, alloc, rt);
+    } = open_backend(&rt, alloc, rt);
     create_all(&rt, alloc, &backend, &mut first, &["9", "2", "0", "1"]);
-    let audit = closed(&rt, alloc, backend, host, first, second);
+    let audit = close_after_refusal(&rt, alloc, backend, host, first, second);
     assert_listed(&rt, &audit, &["0", "1", "2", "9"]);
     assert!(rt; audit.log(&key(&rt, alloc, "3")).is_none());
 }
 
 // Opens a queue of the pass that starts at version 0.
-fn subscribed<R: Wait + Drop>(
+fn open_queue<R: Wait + Drop>(
     rt: &impl Abort,
     backend: &Backend<R>,
     pass: &mut Pass,
@@ -521,8 +534,8 @@ fn store_many<R: Wait + Drop>(
     requires { IsPassOfBackend pass backend.now }
     ensures { IsPassOfBackend result backend.now }
 {
-    for seq in 1..=MANY {
-        let submission = through(rt, alloc, &pass, seq, None, adding(rt, alloc, 1));
+    for seq in 1..=LONG_EDIT_COUNT {
+        let submission = submission_of_pass(rt, alloc, &pass, seq, None, increment(rt, alloc, 1));
         let reply = submit_is_atomic(
             alloc,
             backend,
@@ -532,13 +545,13 @@ fn store_many<R: Wait + Drop>(
             Moment::zero(),
             &NoGate,
         );
-        assert!(rt; stored(&reply).is_some(), "{seq}");
+        assert!(rt; stored_version(&reply).is_some(), "{seq}");
     }
     pass
 }
 
 // Checks that the entries have consecutive versions, and returns the version after them.
-fn passed(rt: &impl Abort, entries: &[Entry], from: u64) -> u64 {
+fn version_after(rt: &impl Abort, entries: &[Entry], from: u64) -> u64 {
     let mut next = from;
     for entry in entries {
         assert!(rt; entry.version() == next);
@@ -559,8 +572,8 @@ fn take_some<R: Wait + Drop>(
     requires { IsPassOfBackend pass.old backend.now }
     ensures { IsPassOfBackend pass.new backend.now }
 {
-    let taken = take_is_fifo(backend, pass, key, id, AT_ONCE).expect(rt, "out of memory");
-    passed(rt, taken.expect(rt, "a queue").as_slice(), from)
+    let taken = take_is_fifo(backend, pass, key, id, TAKE_LIMIT).expect(rt, "out of memory");
+    version_after(rt, taken.expect(rt, "a queue").as_slice(), from)
 }
 
 // Checks that the queue returns all versions in order.
@@ -575,10 +588,10 @@ fn take_all<R: Wait + Drop>(
     ensures { IsPassOfBackend pass.new backend.now }
 {
     let mut next: u64 = 0;
-    for _ in 0..TAKES {
+    for _ in 0..TAKE_COUNT {
         next = take_some(rt, backend, pass, key, id, next);
     }
-    assert!(rt; next == 2 * MANY + 1);
+    assert!(rt; next == 2 * LONG_EDIT_COUNT + 1);
 }
 
 // Returns whether the pass has no such queue.
@@ -590,7 +603,7 @@ fn is_unknown<R: Wait + Drop>(backend: &Backend<R>, pass: &mut Pass, key: &Key, 
 }
 
 // Returns the number of entries of the source.
-fn count_of(log: &Log, source: &str) -> u64 {
+fn count_entries_of(log: &Log, source: &str) -> u64 {
     let mut count: u64 = 0;
     for version in 0..log.len() {
         if let Some(entry) = log.get(version) {
@@ -603,31 +616,31 @@ fn count_of(log: &Log, source: &str) -> u64 {
 }
 
 // Checks that the document has all edits of both threads.
-fn assert_both(rt: &impl Abort, audit: &Audit, key: &Key) {
+fn assert_edits_of_both(rt: &impl Abort, audit: &Audit, key: &Key) {
     let log = audit.log(key).expect(rt, "a log");
     assert!(rt;
-        count_of(log, "x1") == MANY
-            && count_of(log, "x2") == MANY
-            && log.len() == 2 * MANY + 1
-            && replayed(rt, log) == Some(200)
+        count_entries_of(log, "x1") == LONG_EDIT_COUNT
+            && count_entries_of(log, "x2") == LONG_EDIT_COUNT
+            && log.len() == 2 * LONG_EDIT_COUNT + 1
+            && replay_counter(rt, log) == Some(200)
     );
 }
 
 #[test]
-fn what_threads_store_is_taken_in_order(rt: HostRuntime) {
+fn entries_of_two_threads_are_taken_in_order(rt: HostRuntime) {
     let alloc = rt.alloc();
-    let Room {
+    let TestBackend {
         backend,
         mut host,
         first,
         second,
-    } = opened(&rt, alloc, rt);
+    } = open_backend(&rt, alloc, rt);
     let Ok(mut third) = backend.enter(&mut host) else {
         panic!(rt; "no pass");
     };
     let key = key(&rt, alloc, "1");
     create(&rt, alloc, &backend, &mut third, &key);
-    let id = subscribed(&rt, &backend, &mut third, &key);
+    let id = open_queue(&rt, &backend, &mut third, &key);
     let (mut first, second) = thread::join(
         &rt,
         || -> Pass
@@ -641,13 +654,13 @@ fn what_threads_store_is_taken_in_order(rt: HostRuntime) {
     );
     assert!(rt; is_unknown(&backend, &mut first, &key, id));
     take_all(&rt, &backend, &mut third, &key, id);
-    let audit = ended(&rt, alloc, backend, host, first, second, third);
-    assert_both(&rt, &audit, &key);
+    let audit = close_with_three_passes(&rt, alloc, backend, host, first, second, third);
+    assert_edits_of_both(&rt, &audit, &key);
     assert!(rt; audit.queues() == 1);
 }
 
 // Closes the backend with its host and three passes, and returns the audit.
-fn ended<R: Wait + Drop>(
+fn close_with_three_passes<R: Wait + Drop>(
     rt: &impl Abort,
     alloc: Global,
     backend: Backend<R>,

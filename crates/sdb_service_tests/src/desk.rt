@@ -5,7 +5,7 @@ ghost use Rattle.sdb_oplog.specs.Keys.{plain_key};
 ghost use Rattle.sdb_desk.specs.View.{plain_attempt};
 ghost use Rattle.sdb_service_tests.specs.Seen.{IsSeen, StaySeen};
 
-use crate::parts::{content, key, number, stored, submission};
+use crate::helpers::{content, key, number_of, stored_version, submission};
 use sdb_desk::{Attempt, Outcome, Reply, Shard, Work};
 use sdb_oplog::{Code, Content, Entry, Key, Moment, Submission};
 use sdb_subscribe::SubId;
@@ -14,16 +14,16 @@ use std::process::Abort;
 
 // A shard and the key of one document.
 #[derive(Drop)]
-pub(crate) struct Board {
+pub(crate) struct TestDocument {
     pub(crate) alloc: Global,
     pub(crate) key: Key,
     pub(crate) shard: Shard,
 }
 
-impl Board {
+impl TestDocument {
     // Creates a shard without the document.
-    pub(crate) fn empty(rt: &impl Abort, alloc: Global) -> Board {
-        Board {
+    pub(crate) fn empty(rt: &impl Abort, alloc: Global) -> TestDocument {
+        TestDocument {
             alloc,
             key: key(rt, alloc, "1"),
             shard: Shard::new(alloc),
@@ -31,24 +31,24 @@ impl Board {
     }
 
     // Creates a shard whose document is the number 0.
-    fn new(rt: &impl Abort, alloc: Global) -> Board {
-        let mut board = Board::empty(rt, alloc);
-        board.make(rt);
-        board
+    fn new(rt: &impl Abort, alloc: Global) -> TestDocument {
+        let mut document = TestDocument::empty(rt, alloc);
+        document.create(rt);
+        document
     }
 
     // Creates the document.
-    fn make(&mut self, rt: &impl Abort) {
+    fn create(&mut self, rt: &impl Abort) {
         let zero = content(rt, self.alloc, r#"{"create":{"type":"json0","data":0}}"#);
-        self.put(rt, submission(rt, self.alloc, "w", 1, None, zero, 0));
+        self.store(rt, submission(rt, self.alloc, "w", 1, None, zero, 0));
     }
 
     // Stores the submission.
-    pub(crate) fn put(&mut self, rt: &impl Abort, submission: Submission)
+    pub(crate) fn store(&mut self, rt: &impl Abort, submission: Submission)
         ensures { StaySeen (plain_key self.old.key) self.old.shard (plain_key self.new.key) self.new.shard }
     {
         let reply = self.commit_now(submission);
-        stored(&reply).expect(rt, "out of memory, or not stored");
+        stored_version(&reply).expect(rt, "out of memory, or not stored");
     }
 
     // Returns an edit with this source, sequence number and base version.
@@ -65,9 +65,9 @@ impl Board {
     }
 
     // Stores an edit that adds 1 for each sequence number of the range.
-    fn count_up(&mut self, rt: &impl Abort, first: u64, last: u64) {
+    fn store_edits(&mut self, rt: &impl Abort, first: u64, last: u64) {
         for seq in first..=last {
-            self.put(rt, self.edit(rt, ("x", seq), None, 1));
+            self.store(rt, self.edit(rt, ("x", seq), None, 1));
         }
     }
 
@@ -84,11 +84,11 @@ impl Board {
     }
 
     // Returns an edit with source y and base version 1, rebased to the present version.
-    fn work(&self, rt: &impl Abort, amount: i64) -> Work
+    fn rebased_edit(&self, rt: &impl Abort, amount: i64) -> Work
         ensures { IsSeen (plain_key self.now.key) self.now.shard result }
     {
         let edit = self.edit(rt, ("y", 1), Some(1), amount);
-        worked(rt, self.alloc, self.attempt(rt, edit))
+        compute_work(rt, self.alloc, self.attempt(rt, edit))
     }
 
     fn commit_now(&mut self, submission: Submission) -> Reply
@@ -109,13 +109,13 @@ impl Board {
     }
 
     // Returns the version and the number of the document.
-    fn present(&mut self, rt: &impl Abort) -> (u64, Option<i64>) {
+    fn version_and_number(&mut self, rt: &impl Abort) -> (u64, Option<i64>) {
         let fetched = self.shard.fetch(&self.key).expect(rt, "out of memory");
-        (fetched.version, number(fetched.snapshot.as_ref()))
+        (fetched.version, number_of(fetched.snapshot.as_ref()))
     }
 }
 
-pub(crate) fn worked(rt: &impl Abort, alloc: Global, attempt: Attempt) -> Work
+pub(crate) fn compute_work(rt: &impl Abort, alloc: Global, attempt: Attempt) -> Work
     ensures { result ≡ plain_attempt attempt }
 {
     match Work::compute(alloc, attempt) {
@@ -124,63 +124,70 @@ pub(crate) fn worked(rt: &impl Abort, alloc: Global, attempt: Attempt) -> Work
     }
 }
 
-fn repeated(reply: &Reply) -> Option<u64> {
+fn duplicate_version(reply: &Reply) -> Option<u64> {
     match reply {
         Reply::Repeat { v } => Some(*v),
         _ => None,
     }
 }
 
-fn decided(outcome: &Outcome) -> Option<(u64, usize)> {
+fn decided_version(outcome: &Outcome) -> Option<(u64, usize)> {
     match outcome {
-        Outcome::Decided(reply) => stored(reply),
+        Outcome::Decided(reply) => stored_version(reply),
         Outcome::Moved(_) => None,
     }
 }
 
 #[test]
-fn an_attempt_is_worked_and_given_back(rt: HostRuntime) {
-    let work = Board::new(&rt, rt.alloc()).work(&rt, 5);
-    let is_worked = work.version() == 1 && work.missed().is_empty();
+fn a_work_returns_its_attempt(rt: HostRuntime) {
+    let work = TestDocument::new(&rt, rt.alloc()).rebased_edit(&rt, 5);
+    let is_at_version_1 = work.version() == 1 && work.missed().is_empty();
     let attempt = work.into_attempt();
-    assert!(rt; is_worked && attempt.submission.src() == "y" && attempt.look.version == 1);
+    assert!(rt; is_at_version_1 && attempt.submission.src() == "y" && attempt.look.version == 1);
 }
 
 // Returns a work that deletes the document at version 1 and has missed no entry.
-fn deleting(rt: &impl Abort, board: &Board) -> Work
-    ensures { IsSeen (plain_key board.now.key) board.now.shard result }
+fn work_that_deletes(rt: &impl Abort, document: &TestDocument) -> Work
+    ensures { IsSeen (plain_key document.now.key) document.now.shard result }
 {
-    let alloc = board.alloc;
+    let alloc = document.alloc;
     let submission = submission(rt, alloc, "x", 1, Some(1), Content::delete(), 0);
-    let attempt = board.attempt(rt, submission);
+    let attempt = document.attempt(rt, submission);
     assert!(rt; attempt.look.missed.is_empty());
     Work::new(attempt, Ok(Content::delete()), Ok(None))
 }
 
 #[test]
-fn a_work_of_ones_own_is_committed(rt: HostRuntime) {
-    let mut board = Board::new(&rt, rt.alloc());
-    let work = deleting(&rt, &board);
-    assert!(rt; decided(&board.commit(work)) == Some((1, 0)) && board.present(&rt) == (2, None));
+fn a_work_made_by_its_caller_is_committed(rt: HostRuntime) {
+    let mut document = TestDocument::new(&rt, rt.alloc());
+    let work = work_that_deletes(&rt, &document);
+    assert!(rt;
+        decided_version(&document.commit(work)) == Some((1, 0))
+            && document.version_and_number(&rt) == (2, None)
+    );
 }
 
 // Another edit is stored after the edit was rebased.
 #[test]
-fn a_work_is_decided_at_last(rt: HostRuntime) {
-    let mut board = Board::new(&rt, rt.alloc());
-    let late = board.work(&rt, 10);
-    board.count_up(&rt, 1, 1);
-    let reply = board.commit_last(late);
-    assert!(rt; stored(&reply) == Some((2, 1)) && board.present(&rt) == (3, Some(11)));
+fn commit_last_decides_on_a_longer_log(rt: HostRuntime) {
+    let mut document = TestDocument::new(&rt, rt.alloc());
+    let late = document.rebased_edit(&rt, 10);
+    document.store_edits(&rt, 1, 1);
+    let reply = document.commit_last(late);
+    assert!(rt;
+        stored_version(&reply) == Some((2, 1)) && document.version_and_number(&rt) == (3, Some(11))
+    );
 }
 
 // Checks the log, the version, and the versions at which a queue may start.
 #[test]
-fn a_document_is_shown(rt: HostRuntime) {
-    let board = Board::new(&rt, rt.alloc());
-    let log = board.shard.log(&board.key).expect(&rt, "a log");
+fn a_document_has_a_log_and_queue_starts(rt: HostRuntime) {
+    let document = TestDocument::new(&rt, rt.alloc());
+    let log = document.shard.log(&document.key).expect(&rt, "a log");
     assert!(rt;
-        log.len() == 1 && log.stored_at("w", 1) == Some(0) && board.shard.version(&board.key) == 1
+        log.len() == 1
+            && log.stored_at("w", 1) == Some(0)
+            && document.shard.version(&document.key) == 1
     );
     for (version, start) in [
         (None, Ok(1)),
@@ -188,13 +195,13 @@ fn a_document_is_shown(rt: HostRuntime) {
         (Some(1), Ok(1)),
         (Some(2), Err(Code::E4)),
     ] {
-        assert!(rt; board.shard.queue_start_or_full(&board.key, version) == start);
+        assert!(rt; document.shard.queue_start_or_full(&document.key, version) == start);
     }
 }
 
 // Returns the number of entries from the version on.
-fn listed(board: &Board, version: u64) -> Result<usize, Code> {
-    match board.shard.ops_from(&board.key, version) {
+fn count_ops_from(document: &TestDocument, version: u64) -> Result<usize, Code> {
+    match document.shard.ops_from(&document.key, version) {
         Ok(ops) => Ok(ops.len()),
         Err(code) => Err(code),
     }
@@ -202,93 +209,99 @@ fn listed(board: &Board, version: u64) -> Result<usize, Code> {
 
 #[test]
 fn operations_are_listed_from_a_version(rt: HostRuntime) {
-    let board = Board::new(&rt, rt.alloc());
-    assert!(rt; listed(&board, 0) == Ok(1));
-    assert!(rt; listed(&board, 2) == Err(Code::E4));
+    let document = TestDocument::new(&rt, rt.alloc());
+    assert!(rt; count_ops_from(&document, 0) == Ok(1));
+    assert!(rt; count_ops_from(&document, 2) == Err(Code::E4));
     for (from, to, count) in [(0, 0, 0), (0, 1, 1), (0, 9, 1), (1, 9, 0), (9, 1, 0)] {
-        let ops = board.shard.ops_between(&board.key, from, to);
+        let ops = document.shard.ops_between(&document.key, from, to);
         assert!(rt; ops.expect(&rt, "out of memory").len() == count);
     }
 }
 
-fn number_at(rt: &impl Abort, board: &mut Board, version: u64) -> Option<i64> {
-    let fetched = board.shard.snapshot_at(&board.key, Some(version));
-    number(fetched.expect(rt, "a snapshot").snapshot.as_ref())
+fn number_at(rt: &impl Abort, document: &mut TestDocument, version: u64) -> Option<i64> {
+    let fetched = document.shard.snapshot_at(&document.key, Some(version));
+    number_of(fetched.expect(rt, "a snapshot").snapshot.as_ref())
 }
 
 // Returns the version at which the replay starts, and the number of entries to apply.
-fn lent(rt: &impl Abort, board: &mut Board, version: u64) -> (u64, usize) {
-    let lent = board
+fn replay_start(rt: &impl Abort, document: &mut TestDocument, version: u64) -> (u64, usize) {
+    let base = document
         .shard
-        .replay_base(&board.key, version)
+        .replay_base(&document.key, version)
         .expect(rt, "a version");
-    (lent.version, lent.entries.len())
+    (base.version, base.entries.len())
 }
 
 // Replays the document to a version outside of the shard, and returns its number.
-fn replayed(rt: &impl Abort, board: &mut Board, version: u64) -> Option<i64> {
-    let lent = board
+fn replay_number(rt: &impl Abort, document: &mut TestDocument, version: u64) -> Option<i64> {
+    let base = document
         .shard
-        .replay_base(&board.key, version)
+        .replay_base(&document.key, version)
         .expect(rt, "a version");
-    let snapshot = lent.replay(board.alloc).expect(rt, "out of memory");
-    number(snapshot.as_ref())
+    let snapshot = base.replay(document.alloc).expect(rt, "out of memory");
+    number_of(snapshot.as_ref())
 }
 
 #[test]
-fn a_version_is_lent_from_the_nearest_that_is_kept(rt: HostRuntime) {
-    let mut board = Board::new(&rt, rt.alloc());
-    board.count_up(&rt, 1, 11);
+fn a_replay_starts_at_the_nearest_cached_version(rt: HostRuntime) {
+    let mut document = TestDocument::new(&rt, rt.alloc());
+    document.store_edits(&rt, 1, 11);
     assert!(rt;
-        lent(&rt, &mut board, 8) == (0, 8)
-            && lent(&rt, &mut board, 12) == (12, 0)
-            && replayed(&rt, &mut board, 8) == Some(7)
-            && number_at(&rt, &mut board, 8) == Some(7)
-            && lent(&rt, &mut board, 10) == (8, 2)
-            && lent(&rt, &mut board, 8) == (8, 0)
-            && replayed(&rt, &mut board, 10) == Some(9)
-            && matches!(board.shard.replay_base(&board.key, 13), Err(Code::E4))
+        replay_start(&rt, &mut document, 8) == (0, 8)
+            && replay_start(&rt, &mut document, 12) == (12, 0)
+            && replay_number(&rt, &mut document, 8) == Some(7)
+            && number_at(&rt, &mut document, 8) == Some(7)
+            && replay_start(&rt, &mut document, 10) == (8, 2)
+            && replay_start(&rt, &mut document, 8) == (8, 0)
+            && replay_number(&rt, &mut document, 10) == Some(9)
+            && matches!(document.shard.replay_base(&document.key, 13), Err(Code::E4))
     );
 }
 
 // Opens a queue that starts at the version.
-fn opened(rt: &impl Abort, board: &mut Board, version: u64) -> SubId {
-    let opened = board.shard.subscribe(&board.key, 0, Some(version));
+fn open_queue(rt: &impl Abort, document: &mut TestDocument, version: u64) -> SubId {
+    let opened = document.shard.subscribe(&document.key, 0, Some(version));
     opened.expect(rt, "a queue").id
 }
 
-fn is_known(rt: &impl Abort, board: &mut Board, by: u64, id: SubId) -> bool {
-    let taken = board.shard.take(&board.key, by, id, 1);
+fn has_queue(rt: &impl Abort, document: &mut TestDocument, by: u64, id: SubId) -> bool {
+    let taken = document.shard.take(&document.key, by, id, 1);
     taken.expect(rt, "out of memory").is_some()
 }
 
 // The second commit of one work is a duplicate.
 #[test]
 fn a_work_is_stored_once(rt: HostRuntime) {
-    let mut board = Board::new(&rt, rt.alloc());
-    let mut work = board.work(&rt, 5);
-    let first = board.shard.commit(&board.key, &mut work, Moment::zero());
-    let second = board
+    let mut document = TestDocument::new(&rt, rt.alloc());
+    let mut work = document.rebased_edit(&rt, 5);
+    let first = document
         .shard
-        .commit_now(&board.key, work.submission(), Moment::zero());
+        .commit(&document.key, &mut work, Moment::zero());
+    let second = document
+        .shard
+        .commit_now(&document.key, work.submission(), Moment::zero());
     assert!(rt;
-        decided(&first) == Some((1, 0))
-            && repeated(&second) == Some(1)
-            && board.present(&rt) == (2, Some(5))
+        decided_version(&first) == Some((1, 0))
+            && duplicate_version(&second) == Some(1)
+            && document.version_and_number(&rt) == (2, Some(5))
     );
 }
 
 // Fetches a version; returns the number of cached snapshots and the number of the document.
-fn kept_after(rt: &impl Abort, board: &mut Board, version: u64) -> (usize, Option<i64>) {
-    let found = number_at(rt, board, version);
-    (board.shard.cached_count(&board.key), found)
+fn cached_after_fetch(
+    rt: &impl Abort,
+    document: &mut TestDocument,
+    version: u64,
+) -> (usize, Option<i64>) {
+    let found = number_at(rt, document, version);
+    (document.shard.cached_count(&document.key), found)
 }
 
 #[test]
-fn what_is_read_is_kept(rt: HostRuntime) {
-    let mut board = Board::new(&rt, rt.alloc());
-    board.count_up(&rt, 1, 1_100);
-    for (version, kept, wanted) in [
+fn a_snapshot_that_was_read_is_cached(rt: HostRuntime) {
+    let mut document = TestDocument::new(&rt, rt.alloc());
+    document.store_edits(&rt, 1, 1_100);
+    for (version, cached, wanted) in [
         (1_101, 0, 1_100),
         (2, 1, 1),
         (1, 2, 0),
@@ -296,64 +309,72 @@ fn what_is_read_is_kept(rt: HostRuntime) {
         (1_001, 3, 1_000),
     ] {
         assert!(rt;
-            kept_after(&rt, &mut board, version) == (kept, Some(wanted)),
+            cached_after_fetch(&rt, &mut document, version) == (cached, Some(wanted)),
             "{version}"
         );
     }
-    board.shard.forget(&board.key);
-    assert!(rt; board.shard.cached_count(&board.key) == 0);
+    document.shard.forget(&document.key);
+    assert!(rt; document.shard.cached_count(&document.key) == 0);
 }
 
-fn ringed(board: &Board, id: SubId) -> Option<u64> {
-    board.shard.ring_entries(&board.key, id)
+fn ring_len(document: &TestDocument, id: SubId) -> Option<u64> {
+    document.shard.ring_entries(&document.key, id)
 }
 
 // Takes from the queue; returns the number of entries and the version of the first.
-fn front(rt: &impl Abort, board: &mut Board, id: SubId, max: u64) -> (usize, Option<u64>) {
-    let taken = board.shard.take(&board.key, 0, id, max);
+fn take_first(
+    rt: &impl Abort,
+    document: &mut TestDocument,
+    id: SubId,
+    max: u64,
+) -> (usize, Option<u64>) {
+    let taken = document.shard.take(&document.key, 0, id, max);
     let entries = taken.expect(rt, "out of memory").expect(rt, "a queue");
     (entries.len(), entries.first().map(Entry::version))
 }
 
 #[test]
-fn a_commit_fills_the_rings(rt: HostRuntime) {
-    let mut board = Board::empty(&rt, rt.alloc());
-    let id = opened(&rt, &mut board, 0);
-    assert!(rt; ringed(&board, id) == Some(0));
-    board.make(&rt);
-    board.count_up(&rt, 1, 64);
+fn a_commit_pushes_its_entry_to_the_rings(rt: HostRuntime) {
+    let mut document = TestDocument::empty(&rt, rt.alloc());
+    let id = open_queue(&rt, &mut document, 0);
+    assert!(rt; ring_len(&document, id) == Some(0));
+    document.create(&rt);
+    document.store_edits(&rt, 1, 64);
     assert!(rt;
-        ringed(&board, id) == Some(64)
-            && front(&rt, &mut board, id, 1) == (1, Some(0))
-            && ringed(&board, id) == Some(64)
+        ring_len(&document, id) == Some(64)
+            && take_first(&rt, &mut document, id, 1) == (1, Some(0))
+            && ring_len(&document, id) == Some(64)
     );
-    board.count_up(&rt, 65, 128);
-    assert!(rt; front(&rt, &mut board, id, 200) == (128, Some(1)) && ringed(&board, id) == Some(0));
+    document.store_edits(&rt, 65, 128);
+    assert!(rt;
+        take_first(&rt, &mut document, id, 200) == (128, Some(1))
+            && ring_len(&document, id) == Some(0)
+    );
 }
 
 // A queue exists only under the number of its pass: another pass can neither take from it nor close
 // it.
 #[test]
-fn a_queue_is_closed_under_its_number(rt: HostRuntime) {
-    let mut board = Board::new(&rt, rt.alloc());
-    board.count_up(&rt, 1, 2);
-    let id = opened(&rt, &mut board, 1);
-    board.shard.unsubscribe(&board.key, 1, id);
+fn only_its_owner_takes_from_and_closes_a_queue(rt: HostRuntime) {
+    let mut document = TestDocument::new(&rt, rt.alloc());
+    document.store_edits(&rt, 1, 2);
+    let id = open_queue(&rt, &mut document, 1);
+    document.shard.unsubscribe(&document.key, 1, id);
     assert!(rt;
-        !is_known(&rt, &mut board, 1, id)
-            && board.shard.queues() == 1
-            && front(&rt, &mut board, id, 10) == (2, Some(1))
+        !has_queue(&rt, &mut document, 1, id)
+            && document.shard.queues() == 1
+            && take_first(&rt, &mut document, id, 10) == (2, Some(1))
     );
-    board.shard.unsubscribe(&board.key, 0, id);
+    document.shard.unsubscribe(&document.key, 0, id);
     assert!(rt;
-        !is_known(&rt, &mut board, 0, id)
-            && board.shard.queues() == 0
-            && ringed(&board, id).is_none()
+        !has_queue(&rt, &mut document, 0, id)
+            && document.shard.queues() == 0
+            && ring_len(&document, id).is_none()
     );
 }
 
 #[test]
-fn a_key_falls_into_a_shard(rt: HostRuntime) {
+fn a_key_has_a_shard(rt: HostRuntime) {
     for (id, shard) in [("1", 3), ("2", 4), ("9", 3)] {
         assert!(rt; key(&rt, rt.alloc(), id).shard() == shard, "{id}");
     }

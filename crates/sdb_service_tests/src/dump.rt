@@ -1,12 +1,12 @@
 //! Tests of `sdb_dump`: dumps that are written and checked.
-use crate::parts::{key, text};
+use crate::helpers::{key, text};
 use sdb_dump::{DumpFault, check_dump};
 use sdb_lines::{CountingReader, CountingWriter};
 use sdb_steps::run_dump;
 use std::alloc::Global;
 use std::process::Abort;
 
-const NOTHING: &str = r#"{"dump":2}
+const EMPTY: &str = r#"{"dump":2}
 {"entries":0}
 "#;
 
@@ -41,7 +41,7 @@ const TWO_DOCUMENTS: &str = r#"{"dump":2}
 {"entries":3}
 "#;
 
-const KEYS_TURNED: &str = r#"{"dump":2}
+const KEYS_OUT_OF_ORDER: &str = r#"{"dump":2}
 {"arrived":{"create":{"data":{"n":0},"type":"http://sharejs.org/types/JSONv0"},"v":null},"by":0,"c":"b","create":{"data":{"n":0},"type":"http://sharejs.org/types/JSONv0"},"d":"2","m":7,"seq":1,"src":"w","v":0,"via":"b"}
 {"arrived":{"create":{"data":{"n":0},"type":"http://sharejs.org/types/JSONv0"},"v":null},"by":0,"c":"b","create":{"data":{"n":0},"type":"http://sharejs.org/types/JSONv0"},"d":"1","m":100,"seq":1,"src":"w","v":0,"via":"b"}
 {"entries":2}
@@ -67,7 +67,7 @@ const RETRY: &str =
 {"s":1,"do":"work"}
 {"s":1,"do":"commit"}"#;
 
-const REPEAT: &str =
+const DUPLICATE: &str =
     r#"{"s":0,"do":"begin","c":"b","d":"1","src":"w","seq":1,"create":{"type":"http://sharejs.org/types/JSONv0","data":{"n":0}}}
 {"s":0,"do":"commit"}
 {"s":1,"do":"begin","c":"b","d":"1","src":"x","seq":1,"v":1,"op":[{"p":["n"],"na":10}]}
@@ -101,7 +101,7 @@ const NO_VERSION: &str =
 {"s":1,"do":"commit"}
 {"s":1,"do":"commit"}"#;
 
-const NINTH: &str =
+const NINTH_COMMIT: &str =
     r#"{"s":0,"do":"begin","c":"b","d":"1","src":"w","seq":1,"create":{"type":"http://sharejs.org/types/JSONv0","data":{"n":0}}}
 {"s":0,"do":"commit"}
 {"s":1,"do":"begin","c":"b","d":"1","src":"x","seq":1,"v":1,"op":[{"p":["n"],"na":100}]}
@@ -134,7 +134,7 @@ const NINTH: &str =
 {"s":1,"do":"commit"}"#;
 
 // The steps that create a document.
-const MADE: &str =
+const CREATE_STEPS: &str =
     r#"{"s":0,"do":"begin","c":"b","d":"1","src":"w","seq":1,"create":{"type":"http://sharejs.org/types/JSONv0","data":{"n":0}}}
 {"s":0,"do":"commit"}
 "#;
@@ -148,15 +148,15 @@ fn dump_of(rt: &impl Abort, alloc: Global, steps: &str) -> Vec<u8> {
 }
 
 // Returns the number of documents and entries of a dump, or the reason why it is refused.
-fn checked(alloc: Global, dump: &[u8]) -> Result<(u64, u128), DumpFault> {
+fn check(alloc: Global, dump: &[u8]) -> Result<(u64, u128), DumpFault> {
     let mut reader = CountingReader::new(dump);
     let checked = check_dump(alloc, &mut reader)?;
     Ok((checked.documents, checked.entries))
 }
 
 // Returns the steps of a document with 74 edits.
-fn edited_often(rt: &impl Abort, alloc: Global) -> String {
-    let mut steps = text(rt, alloc, MADE);
+fn steps_of_many_edits(rt: &impl Abort, alloc: Global) -> String {
+    let mut steps = text(rt, alloc, CREATE_STEPS);
     for seq in 2..76 {
         let edit = format!(in alloc;
             r#"{{"s":0,"do":"begin","c":"b","d":"1","src":"w","seq":{seq},"op":[{{"p":["n"],"na":1}}]}}"#
@@ -173,7 +173,7 @@ fn edited_often(rt: &impl Abort, alloc: Global) -> String {
 
 #[test]
 fn dumps_are_written(rt: HostRuntime) {
-    for (steps, dump) in [("", NOTHING), (CREATE, CREATED)] {
+    for (steps, dump) in [("", EMPTY), (CREATE, CREATED)] {
         assert!(rt;
             dump_of(&rt, rt.alloc(), steps).as_slice() == dump.as_bytes(),
             "{dump}"
@@ -182,38 +182,41 @@ fn dumps_are_written(rt: HostRuntime) {
 }
 
 #[test]
-fn dumps_of_worked_rows_are_accepted(rt: HostRuntime) {
-    let edited = edited_often(&rt, rt.alloc());
-    for (steps, told) in [
+fn dumps_of_rebased_edits_are_accepted(rt: HostRuntime) {
+    let edited = steps_of_many_edits(&rt, rt.alloc());
+    for (steps, expected) in [
         (RETRY, (1, 3)),
-        (REPEAT, (1, 2)),
+        (DUPLICATE, (1, 2)),
         (NO_VERSION, (2, 6)),
-        (NINTH, (1, 11)),
+        (NINTH_COMMIT, (1, 11)),
         (edited.as_str(), (1, 75)),
     ] {
         let dump = dump_of(&rt, rt.alloc(), steps);
-        assert!(rt; checked(rt.alloc(), dump.as_slice()) == Ok(told), "{steps}");
+        assert!(rt;
+            check(rt.alloc(), dump.as_slice()) == Ok(expected),
+            "{steps}"
+        );
     }
 }
 
 #[test]
-fn dumps_are_checked(rt: HostRuntime) {
-    for (dump, told) in [
-        (NOTHING, Ok((0, 0))),
+fn dumps_are_accepted_or_refused_at_a_line(rt: HostRuntime) {
+    for (dump, expected) in [
+        (EMPTY, Ok((0, 0))),
         (CREATED, Ok((1, 1))),
         (WITHOUT_MOMENT, Ok((1, 1))),
         (OTHER_VERSION, Err(DumpFault::WrongLine { line: 2 })),
         (WITHOUT_COUNT, Err(DumpFault::WrongLine { line: 3 })),
         (TWO_DOCUMENTS, Ok((2, 3))),
-        (KEYS_TURNED, Err(DumpFault::WrongLine { line: 3 })),
+        (KEYS_OUT_OF_ORDER, Err(DumpFault::WrongLine { line: 3 })),
         (CREATED_TWICE, Err(DumpFault::WrongLine { line: 3 })),
     ] {
-        assert!(rt; checked(rt.alloc(), dump.as_bytes()) == told, "{dump}");
+        assert!(rt; check(rt.alloc(), dump.as_bytes()) == expected, "{dump}");
     }
 }
 
 #[test]
-fn logs_are_given(rt: HostRuntime) {
+fn a_checked_dump_has_its_logs(rt: HostRuntime) {
     let mut reader = CountingReader::new(TWO_DOCUMENTS.as_bytes());
     let checked = check_dump(rt.alloc(), &mut reader).expect(&rt, "it is accepted");
     for (id, entries) in [("1", Some(2)), ("2", Some(1)), ("3", None)] {

@@ -4,10 +4,10 @@ ghost use Rattle.std.specs.Prelude.{IfNone};
 ghost use Rattle.sdb_oplog.specs.Keys.{plain_key};
 ghost use Rattle.sdb_service_tests.specs.Seen.{IsSeen, StaySeen};
 
-use crate::desk::{Board, worked};
-use crate::parts::{content, stored, submission};
-use crate::projection::titles;
-use crate::session::{FETCH, Room, SUBSCRIBE, named};
+use crate::desk::{TestDocument, compute_work};
+use crate::helpers::{content, stored_version, submission};
+use crate::projection::title_projection;
+use crate::session::{FETCH, SUBSCRIBE, TestServer, new_session};
 use sdb_desk::{Outcome, Reply, SubscribeResult, Work};
 use sdb_oplog::{Code, Moment, Submission};
 use sdb_projection::{Table, TableFault};
@@ -26,52 +26,55 @@ fn mark(rt: &impl Abort, alloc: Global) -> usize {
 }
 
 // Returns a submission that creates a list of one null.
-fn creating(rt: &impl Abort, alloc: Global, src: &str) -> Submission {
+fn create_list(rt: &impl Abort, alloc: Global, src: &str) -> Submission {
     let content = content(rt, alloc, r#"{"create":{"type":"json0","data":[null]}}"#);
     submission(rt, alloc, src, 1, None, content, 0)
 }
 
 // Returns a submission that inserts one null into that list.
-fn adding(rt: &impl Abort, alloc: Global, src: &str, version: Option<u64>) -> Submission {
+fn insert_null(rt: &impl Abort, alloc: Global, src: &str, version: Option<u64>) -> Submission {
     let content = content(rt, alloc, r#"{"op":[{"p":[0],"li":null}]}"#);
     submission(rt, alloc, src, 1, version, content, 0)
 }
 
 // Returns a document of four nulls whose log has four entries and no spare capacity.
-fn full(rt: &impl Abort, alloc: Global) -> Board {
-    let mut board = Board::empty(rt, alloc);
-    board.put(rt, creating(rt, alloc, "w"));
+fn list_of_four(rt: &impl Abort, alloc: Global) -> TestDocument {
+    let mut document = TestDocument::empty(rt, alloc);
+    document.store(rt, create_list(rt, alloc, "w"));
     for src in ["a", "b", "c"] {
-        board.put(rt, adding(rt, alloc, src, None));
+        document.store(rt, insert_null(rt, alloc, src, None));
     }
-    board
+    document
 }
 
 // Returns the submission, rebased to the present version.
-fn work_on(rt: &impl Abort, board: &Board, submission: Submission) -> Work
-    ensures { IsSeen (plain_key board.now.key) board.now.shard result }
+fn rebase(rt: &impl Abort, document: &TestDocument, submission: Submission) -> Work
+    ensures { IsSeen (plain_key document.now.key) document.now.shard result }
 {
-    worked(rt, board.alloc, board.attempt(rt, submission))
+    compute_work(rt, document.alloc, document.attempt(rt, submission))
 }
 
 // Returns an edit with base version 3, rebased to the present version.
-fn late_work(rt: &impl Abort, board: &Board) -> Work
-    ensures { IsSeen (plain_key board.now.key) board.now.shard result }
+fn rebase_late_insert(rt: &impl Abort, document: &TestDocument) -> Work
+    ensures { IsSeen (plain_key document.now.key) document.now.shard result }
 {
-    work_on(rt, board, adding(rt, board.alloc, "x", Some(3)))
+    rebase(rt, document, insert_null(rt, document.alloc, "x", Some(3)))
 }
 
 // The version of the document and its number of items.
 type State = (u64, Option<usize>);
 
-fn present(rt: &impl Abort, board: &mut Board) -> State
-    ensures { StaySeen (plain_key board.old.key) board.old.shard (plain_key board.new.key) board.new.shard }
+fn read_state(rt: &impl Abort, document: &mut TestDocument) -> State
+    ensures { StaySeen (plain_key document.old.key) document.old.shard (plain_key document.new.key) document.new.shard }
 {
-    let fetched = board.shard.fetch(&board.key).expect(rt, "out of memory");
-    (fetched.version, count(fetched.snapshot.as_ref()))
+    let fetched = document
+        .shard
+        .fetch(&document.key)
+        .expect(rt, "out of memory");
+    (fetched.version, count_items(fetched.snapshot.as_ref()))
 }
 
-fn count(document: Option<&Json>) -> Option<usize> {
+fn count_items(document: Option<&Json>) -> Option<usize> {
     let Some(Json::List(items)) = document else {
         return None;
     };
@@ -84,13 +87,13 @@ fn count(document: Option<&Json>) -> Option<usize> {
 
 // The version of the entry or of the look, and the number of missed entries. `None` if an
 // allocation failed.
-type Answered = Option<(u64, usize)>;
+type VersionAndMissed = Option<(u64, usize)>;
 
-fn commit(board: &mut Board, work: &mut Work) -> Answered
-    requires { IsSeen (plain_key board.old.key) board.old.shard work.old }
-    ensures { IfNone result (IsSeen (plain_key board.new.key) board.new.shard work.new) }
+fn commit(document: &mut TestDocument, work: &mut Work) -> VersionAndMissed
+    requires { IsSeen (plain_key document.old.key) document.old.shard work.old }
+    ensures { IfNone result (IsSeen (plain_key document.new.key) document.new.shard work.new) }
 {
-    match board.shard.commit(&board.key, work, Moment::zero()) {
+    match document.shard.commit(&document.key, work, Moment::zero()) {
         Outcome::Decided(Reply::Stored { v, missed }) => Some((v, missed.len())),
         Outcome::Decided(Reply::Repeat { .. }) => None,
         Outcome::Decided(Reply::Refused(_)) => None,
@@ -99,214 +102,232 @@ fn commit(board: &mut Board, work: &mut Work) -> Answered
 }
 
 // Commits between two marks, and again if an allocation failed and the state is unchanged.
-fn commit_again(rt: &impl Abort, board: &mut Board, work: &mut Work) -> Answered
-    requires { IsSeen (plain_key board.old.key) board.old.shard work.old }
+fn commit_with_retry(
+    rt: &impl Abort,
+    document: &mut TestDocument,
+    work: &mut Work,
+) -> VersionAndMissed
+    requires { IsSeen (plain_key document.old.key) document.old.shard work.old }
 {
-    let (before, missed) = (present(rt, board), work.missed().len());
-    mark(rt, board.alloc);
-    let first = commit(board, work);
-    mark(rt, board.alloc);
+    let (before, missed) = (read_state(rt, document), work.missed().len());
+    mark(rt, document.alloc);
+    let first = commit(document, work);
+    mark(rt, document.alloc);
     if first.is_some() {
         return first;
     }
-    if present(rt, board) != before || work.missed().len() != missed {
+    if read_state(rt, document) != before || work.missed().len() != missed {
         return None;
     }
-    commit(board, work)
+    commit(document, work)
 }
 
 // Checks the reply to a commit of the work, and the state after it.
 fn assert_commit(
     rt: &impl Abort,
-    board: &mut Board,
+    document: &mut TestDocument,
     mut work: Work,
-    answered: (u64, usize),
+    expected: (u64, usize),
     state: State,
 )
-    requires { IsSeen (plain_key board.old.key) board.old.shard work }
+    requires { IsSeen (plain_key document.old.key) document.old.shard work }
 {
     assert!(rt;
-        commit_again(rt, board, &mut work) == Some(answered) && present(rt, board) == state
+        commit_with_retry(rt, document, &mut work) == Some(expected)
+            && read_state(rt, document) == state
     );
 }
 
 #[test]
-fn a_first_commit(rt: HostRuntime) {
-    let mut board = Board::empty(&rt, rt.alloc());
-    let work = work_on(&rt, &board, creating(&rt, rt.alloc(), "x"));
-    assert_commit(&rt, &mut board, work, (0, 0), (1, Some(1)));
+fn a_failed_first_commit_stores_nothing(rt: HostRuntime) {
+    let mut document = TestDocument::empty(&rt, rt.alloc());
+    let work = rebase(&rt, &document, create_list(&rt, rt.alloc(), "x"));
+    assert_commit(&rt, &mut document, work, (0, 0), (1, Some(1)));
 }
 
 #[test]
-fn a_commit(rt: HostRuntime) {
-    let mut board = full(&rt, rt.alloc());
-    let work = late_work(&rt, &board);
-    assert_commit(&rt, &mut board, work, (4, 1), (5, Some(5)));
+fn a_failed_commit_stores_nothing(rt: HostRuntime) {
+    let mut document = list_of_four(&rt, rt.alloc());
+    let work = rebase_late_insert(&rt, &document);
+    assert_commit(&rt, &mut document, work, (4, 1), (5, Some(5)));
 }
 
 // Another edit is stored after the edit was rebased.
 #[test]
-fn a_commit_to_a_log_that_has_moved(rt: HostRuntime) {
-    let mut board = full(&rt, rt.alloc());
-    let work = late_work(&rt, &board);
-    board.put(&rt, adding(&rt, rt.alloc(), "y", None));
-    assert_commit(&rt, &mut board, work, (5, 2), (5, Some(5)));
+fn a_failed_commit_to_a_longer_log_stores_nothing(rt: HostRuntime) {
+    let mut document = list_of_four(&rt, rt.alloc());
+    let work = rebase_late_insert(&rt, &document);
+    document.store(&rt, insert_null(&rt, rt.alloc(), "y", None));
+    assert_commit(&rt, &mut document, work, (5, 2), (5, Some(5)));
 }
 
-fn commit_now(board: &mut Board, submission: &Submission) -> Answered {
-    stored(
-        &board
+fn commit_now(document: &mut TestDocument, submission: &Submission) -> VersionAndMissed {
+    stored_version(
+        &document
             .shard
-            .commit_now(&board.key, submission, Moment::zero()),
+            .commit_now(&document.key, submission, Moment::zero()),
     )
 }
 
 // Commits in one call between two marks, and again if an allocation failed and the state is
 // unchanged.
-fn commit_now_again(rt: &impl Abort, board: &mut Board, submission: &Submission) -> Answered {
-    let before = present(rt, board);
-    mark(rt, board.alloc);
-    let first = commit_now(board, submission);
-    mark(rt, board.alloc);
+fn commit_now_with_retry(
+    rt: &impl Abort,
+    document: &mut TestDocument,
+    submission: &Submission,
+) -> VersionAndMissed {
+    let before = read_state(rt, document);
+    mark(rt, document.alloc);
+    let first = commit_now(document, submission);
+    mark(rt, document.alloc);
     if first.is_some() {
         return first;
     }
-    if present(rt, board) != before {
+    if read_state(rt, document) != before {
         return None;
     }
-    commit_now(board, submission)
+    commit_now(document, submission)
 }
 
 #[test]
-fn a_first_commit_in_one_step(rt: HostRuntime) {
-    let mut board = Board::empty(&rt, rt.alloc());
-    let submission = creating(&rt, rt.alloc(), "x");
+fn a_failed_first_commit_now_stores_nothing(rt: HostRuntime) {
+    let mut document = TestDocument::empty(&rt, rt.alloc());
+    let submission = create_list(&rt, rt.alloc(), "x");
     assert!(rt;
-        commit_now_again(&rt, &mut board, &submission) == Some((0, 0))
-            && present(&rt, &mut board) == (1, Some(1))
+        commit_now_with_retry(&rt, &mut document, &submission) == Some((0, 0))
+            && read_state(&rt, &mut document) == (1, Some(1))
     );
 }
 
 #[test]
-fn a_commit_in_one_step(rt: HostRuntime) {
-    let mut board = full(&rt, rt.alloc());
-    let submission = adding(&rt, rt.alloc(), "x", Some(3));
+fn a_failed_commit_now_stores_nothing(rt: HostRuntime) {
+    let mut document = list_of_four(&rt, rt.alloc());
+    let submission = insert_null(&rt, rt.alloc(), "x", Some(3));
     assert!(rt;
-        commit_now_again(&rt, &mut board, &submission) == Some((4, 1))
-            && present(&rt, &mut board) == (5, Some(5))
+        commit_now_with_retry(&rt, &mut document, &submission) == Some((4, 1))
+            && read_state(&rt, &mut document) == (5, Some(5))
     );
 }
 
 // Calls `commit_last` between two marks, and commits its submission again if an allocation failed.
-fn commit_last_again(rt: &impl Abort, board: &mut Board, work: Work) -> Answered {
+fn commit_last_with_retry(
+    rt: &impl Abort,
+    document: &mut TestDocument,
+    work: Work,
+) -> VersionAndMissed {
     let submission = work.submission().try_clone().expect(rt, "out of memory");
-    let before = present(rt, board);
-    mark(rt, board.alloc);
-    let first = stored(&board.shard.commit_last(&board.key, work, Moment::zero()));
-    mark(rt, board.alloc);
+    let before = read_state(rt, document);
+    mark(rt, document.alloc);
+    let first = stored_version(
+        &document
+            .shard
+            .commit_last(&document.key, work, Moment::zero()),
+    );
+    mark(rt, document.alloc);
     if first.is_some() {
         return first;
     }
-    if present(rt, board) != before {
+    if read_state(rt, document) != before {
         return None;
     }
-    commit_now(board, &submission)
+    commit_now(document, &submission)
 }
 
 // Another edit is stored after the edit was rebased.
 #[test]
-fn a_last_commit(rt: HostRuntime) {
-    let mut board = full(&rt, rt.alloc());
-    let work = late_work(&rt, &board);
-    board.put(&rt, adding(&rt, rt.alloc(), "y", None));
+fn a_failed_commit_last_stores_nothing(rt: HostRuntime) {
+    let mut document = list_of_four(&rt, rt.alloc());
+    let work = rebase_late_insert(&rt, &document);
+    document.store(&rt, insert_null(&rt, rt.alloc(), "y", None));
     assert!(rt;
-        commit_last_again(&rt, &mut board, work) == Some((5, 2))
-            && present(&rt, &mut board) == (6, Some(6))
+        commit_last_with_retry(&rt, &mut document, work) == Some((5, 2))
+            && read_state(&rt, &mut document) == (6, Some(6))
     );
 }
 
 // Replays version 3 between two marks, and again if an allocation failed.
-fn replay_again(rt: &impl Abort, board: &mut Board) -> Option<usize> {
-    mark(rt, board.alloc);
-    let first = replayed(board);
-    mark(rt, board.alloc);
+fn replay_with_retry(rt: &impl Abort, document: &mut TestDocument) -> Option<usize> {
+    mark(rt, document.alloc);
+    let first = replay(document);
+    mark(rt, document.alloc);
     match first {
-        Err(Code::E10) => replayed(board).expect(rt, "out of memory"),
+        Err(Code::E10) => replay(document).expect(rt, "out of memory"),
         first => first.expect(rt, "refused"),
     }
 }
 
-fn replayed(board: &mut Board) -> Result<Option<usize>, Code> {
-    let lent = board.shard.replay_base(&board.key, 3)?;
-    let snapshot = lent.replay(board.alloc)?;
-    Ok(count(snapshot.as_ref()))
+fn replay(document: &mut TestDocument) -> Result<Option<usize>, Code> {
+    let base = document.shard.replay_base(&document.key, 3)?;
+    let snapshot = base.replay(document.alloc)?;
+    Ok(count_items(snapshot.as_ref()))
 }
 
 #[test]
-fn a_replay(rt: HostRuntime) {
-    let mut board = full(&rt, rt.alloc());
+fn a_replay_is_retried_after_an_allocation_failure(rt: HostRuntime) {
+    let mut document = list_of_four(&rt, rt.alloc());
     assert!(rt;
-        replay_again(&rt, &mut board) == Some(3) && present(&rt, &mut board) == (4, Some(4))
+        replay_with_retry(&rt, &mut document) == Some(3)
+            && read_state(&rt, &mut document) == (4, Some(4))
     );
 }
 
 // Subscribes at version 1 between two marks, and again if an allocation failed.
-fn subscribe_again(rt: &impl Abort, board: &mut Board) -> SubscribeResult {
-    mark(rt, board.alloc);
-    let first = board.shard.subscribe(&board.key, 0, Some(1));
-    mark(rt, board.alloc);
+fn subscribe_with_retry(rt: &impl Abort, document: &mut TestDocument) -> SubscribeResult {
+    mark(rt, document.alloc);
+    let first = document.shard.subscribe(&document.key, 0, Some(1));
+    mark(rt, document.alloc);
     match first {
-        Err(Code::E10) => board
+        Err(Code::E10) => document
             .shard
-            .subscribe(&board.key, 0, Some(1))
+            .subscribe(&document.key, 0, Some(1))
             .expect(rt, "refused"),
         first => first.expect(rt, "refused"),
     }
 }
 
 // Takes at most ten entries, and returns their number.
-fn take(rt: &impl Abort, board: &mut Board, id: SubId) -> usize {
-    let taken = board.shard.take(&board.key, 0, id, 10);
+fn take(rt: &impl Abort, document: &mut TestDocument, id: SubId) -> usize {
+    let taken = document.shard.take(&document.key, 0, id, 10);
     let entries = taken.expect(rt, "out of memory");
     entries.expect(rt, "a queue").len()
 }
 
 // Takes at most ten entries between two marks, and again if an allocation failed.
-fn take_again(rt: &impl Abort, board: &mut Board, id: SubId) -> usize {
-    mark(rt, board.alloc);
-    let first = board.shard.take(&board.key, 0, id, 10);
-    mark(rt, board.alloc);
+fn take_with_retry(rt: &impl Abort, document: &mut TestDocument, id: SubId) -> usize {
+    mark(rt, document.alloc);
+    let first = document.shard.take(&document.key, 0, id, 10);
+    mark(rt, document.alloc);
     match first {
         Ok(entries) => entries.expect(rt, "a queue").len(),
-        Err(_) => take(rt, board, id),
+        Err(_) => take(rt, document, id),
     }
 }
 
 #[test]
-fn a_subscribe(rt: HostRuntime) {
-    let mut board = full(&rt, rt.alloc());
-    let opened = subscribe_again(&rt, &mut board);
+fn a_subscribe_is_retried_after_an_allocation_failure(rt: HostRuntime) {
+    let mut document = list_of_four(&rt, rt.alloc());
+    let opened = subscribe_with_retry(&rt, &mut document);
     assert!(rt;
         opened.version == 4
-            && count(opened.snapshot.as_ref()) == Some(4)
-            && take(&rt, &mut board, opened.id) == 3
+            && count_items(opened.snapshot.as_ref()) == Some(4)
+            && take(&rt, &mut document, opened.id) == 3
     );
 }
 
 #[test]
-fn a_take(rt: HostRuntime) {
-    let mut board = full(&rt, rt.alloc());
-    let opened = board.shard.subscribe(&board.key, 0, Some(0));
+fn a_failed_take_leaves_the_queue_unchanged(rt: HostRuntime) {
+    let mut document = list_of_four(&rt, rt.alloc());
+    let opened = document.shard.subscribe(&document.key, 0, Some(0));
     let id = opened.expect(&rt, "out of memory").id;
-    assert!(rt; take_again(&rt, &mut board, id) == 4 && take(&rt, &mut board, id) == 0);
+    assert!(rt; take_with_retry(&rt, &mut document, id) == 4 && take(&rt, &mut document, id) == 0);
 }
 
 // Adds a projection between two marks, and again if an allocation failed.
 #[test]
-fn a_projection(rt: HostRuntime) {
+fn a_failed_add_leaves_the_table_unchanged(rt: HostRuntime) {
     let mut table = Table::new(rt.alloc());
-    let first = titles(&rt, rt.alloc(), "t", "b");
-    let second = titles(&rt, rt.alloc(), "t", "b");
+    let first = title_projection(&rt, rt.alloc(), "t", "b");
+    let second = title_projection(&rt, rt.alloc(), "t", "b");
     mark(&rt, rt.alloc());
     let added = table.add(first);
     mark(&rt, rt.alloc());
@@ -319,27 +340,33 @@ fn a_projection(rt: HostRuntime) {
 }
 
 // Handles a message and returns whether the session has ended.
-fn ends(session: &mut Session, room: &mut Room, message: &str) -> bool {
+fn ends(session: &mut Session, server: &mut TestServer, message: &str) -> bool {
     session
-        .handle(&Solo, &mut room.shard, &room.table, message, Moment::zero())
+        .handle(
+            &Solo,
+            &mut server.shard,
+            &server.table,
+            message,
+            Moment::zero(),
+        )
         .is_err()
 }
 
 // A session in which an allocation failed has ended for each later call too, and leaves no queue.
 #[test]
-fn a_message(rt: HostRuntime) {
-    let mut room = Room::new(rt.alloc());
-    let mut session = named(&rt, rt.alloc(), "s1");
-    ends(&mut session, &mut room, SUBSCRIBE);
+fn a_session_ends_if_an_allocation_fails(rt: HostRuntime) {
+    let mut server = TestServer::new(rt.alloc());
+    let mut session = new_session(&rt, rt.alloc(), "s1");
+    ends(&mut session, &mut server, SUBSCRIBE);
     mark(&rt, rt.alloc());
-    let has_ended = ends(&mut session, &mut room, FETCH);
+    let has_ended = ends(&mut session, &mut server, FETCH);
     mark(&rt, rt.alloc());
-    let has_then = ends(&mut session, &mut room, FETCH);
+    let has_then = ends(&mut session, &mut server, FETCH);
     if has_then && !has_ended {
         panic!(rt; "out of memory around the call");
     }
-    let pumped = session.pump(&Solo, &mut room.shard, &room.table, 1);
+    let pumped = session.pump(&Solo, &mut server.shard, &server.table, 1);
     assert!(rt; has_then == has_ended && pumped.is_err() == has_ended);
-    session.end(&Solo, &mut room.shard);
-    assert!(rt; room.shard.queues() == 0);
+    session.end(&Solo, &mut server.shard);
+    assert!(rt; server.shard.queues() == 0);
 }

@@ -29,13 +29,13 @@ pub(crate) fn content(rt: &impl Abort, alloc: Global, text: &str) -> Content {
 }
 
 // Returns an edit that adds to the number at `n`.
-pub(crate) fn adding(rt: &impl Abort, alloc: Global, amount: i64) -> Content {
+pub(crate) fn increment(rt: &impl Abort, alloc: Global, amount: i64) -> Content {
     let edit = format!(in alloc; r#"{{"op":[{{"p":["n"],"na":{amount}}}]}}"#);
     content(rt, alloc, edit.expect(rt, "out of memory").as_str())
 }
 
 // Returns a content that creates the document `{"n":0}`.
-pub(crate) fn creating(rt: &impl Abort, alloc: Global) -> Content {
+pub(crate) fn create_counter(rt: &impl Abort, alloc: Global) -> Content {
     content(rt, alloc, r#"{"create":{"type":"json0","data":{"n":0}}}"#)
 }
 
@@ -56,7 +56,7 @@ pub(crate) fn submission(
     Submission::new(alloc, src, seq, version, content, via, by).expect(rt, "out of memory")
 }
 
-pub(crate) fn number(document: Option<&Json>) -> Option<i64> {
+pub(crate) fn number_of(document: Option<&Json>) -> Option<i64> {
     match document {
         Some(Json::Int(n)) => Some(n.get()),
         _ => None,
@@ -64,15 +64,15 @@ pub(crate) fn number(document: Option<&Json>) -> Option<i64> {
 }
 
 // Returns the number at `n`.
-pub(crate) fn counted(document: Option<&Json>) -> Option<i64> {
+pub(crate) fn counter_of(document: Option<&Json>) -> Option<i64> {
     match document {
-        Some(Json::Object(members)) => number(members.get("n")),
+        Some(Json::Object(members)) => number_of(members.get("n")),
         _ => None,
     }
 }
 
 // Returns the version of a stored submission and the number of entries that it missed.
-pub(crate) fn stored(reply: &Reply) -> Option<(u64, usize)> {
+pub(crate) fn stored_version(reply: &Reply) -> Option<(u64, usize)> {
     match reply {
         Reply::Stored { v, missed } => Some((*v, missed.len())),
         _ => None,

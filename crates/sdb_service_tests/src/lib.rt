@@ -7,11 +7,11 @@ mod backend;
 #[cfg(test)]
 mod desk;
 #[cfg(test)]
-mod dumps;
+mod dump;
 #[cfg(test)]
 mod growths;
 #[cfg(test)]
-mod parts;
+mod helpers;
 #[cfg(test)]
 mod projection;
 #[cfg(test)]

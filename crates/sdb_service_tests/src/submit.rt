@@ -8,7 +8,7 @@ ghost use Rattle.sdb_submit.specs.Calls.{MachineStep};
 ghost use Rattle.sdb_oplog.specs.Keys.{plain_key};
 ghost use Rattle.sdb_service_tests.specs.Seen.{StaySeen};
 
-use crate::parts::{adding, counted, creating, key, stored, submission};
+use crate::helpers::{counter_of, create_counter, increment, key, stored_version, submission};
 use sdb_desk::{FetchResult, Look, Outcome, Reply, Shard, SubscribeResult, Work};
 use sdb_oplog::{Code, Entry, Key, Moment, Submission};
 use sdb_submit::{Desk, Gate, Solo, submit};
@@ -19,19 +19,19 @@ use std::process::Abort;
 
 // A gate that records the numbers of the tries as decimal digits.
 #[derive(Drop)]
-struct Tries {
+struct TryRecorder {
     digits: Cell<u64>,
 }
 
-impl Tries {
-    fn new() -> Tries {
-        Tries {
+impl TryRecorder {
+    fn new() -> TryRecorder {
+        TryRecorder {
             digits: Cell::new(0),
         }
     }
 }
 
-impl Gate for Tries {
+impl Gate for TryRecorder {
     fn before_commit(&self, try_no: u64) {
         let digits = self.digits.get().saturating_mul(10);
         self.digits.set(digits.saturating_add(try_no));
@@ -40,7 +40,7 @@ impl Gate for Tries {
 
 // A shard, and the concurrent submissions, the last one first.
 #[derive(Drop)]
-struct Shared {
+struct ContendedShard {
     shard: Shard,
     others: Vec<Submission>,
 }
@@ -48,11 +48,11 @@ struct Shared {
 // A desk that stores a concurrent submission before each `commit`, but not before `commit_last` or
 // `commit_now`.
 #[derive(Drop)]
-struct Meddling;
+struct ContendedStore;
 
-impl Shared {
+impl ContendedShard {
     // Stores the next concurrent submission.
-    fn meddle(&mut self, key: &Key)
+    fn store_other(&mut self, key: &Key)
         ensures { StaySeen (plain_key key.now) self.old.shard (plain_key key.now) self.new.shard }
     {
         if let Some(other) = self.others.pop() {
@@ -61,8 +61,8 @@ impl Shared {
     }
 }
 
-impl Desk for Meddling {
-    type Pass = Shared;
+impl Desk for ContendedStore {
+    type Pass = ContendedShard;
 
     ghost accepts = { λ d p. ⊤ };
 
@@ -76,21 +76,27 @@ impl Desk for Meddling {
 
     fn look(
         &self,
-        pass: &mut Shared,
+        pass: &mut ContendedShard,
         key: &Key,
         submission: &Submission,
     ) -> Result<Look, AllocError> {
         pass.shard.look(key, submission)
     }
 
-    fn commit(&self, pass: &mut Shared, key: &Key, work: &mut Work, now: Moment) -> Outcome {
-        pass.meddle(key);
+    fn commit(
+        &self,
+        pass: &mut ContendedShard,
+        key: &Key,
+        work: &mut Work,
+        now: Moment,
+    ) -> Outcome {
+        pass.store_other(key);
         pass.shard.commit(key, work, now)
     }
 
     fn commit_now(
         &self,
-        pass: &mut Shared,
+        pass: &mut ContendedShard,
         key: &Key,
         submission: &Submission,
         now: Moment,
@@ -98,25 +104,30 @@ impl Desk for Meddling {
         pass.shard.commit_now(key, submission, now)
     }
 
-    fn commit_last(&self, pass: &mut Shared, key: &Key, work: Work, now: Moment) -> Reply {
+    fn commit_last(&self, pass: &mut ContendedShard, key: &Key, work: Work, now: Moment) -> Reply {
         pass.shard.commit_last(key, work, now)
     }
 
-    fn version(&self, pass: &mut Shared, key: &Key) -> u64 {
+    fn version(&self, pass: &mut ContendedShard, key: &Key) -> u64 {
         pass.shard.version(key)
     }
 
-    fn fetch(&self, pass: &mut Shared, key: &Key) -> Result<FetchResult, Code> {
+    fn fetch(&self, pass: &mut ContendedShard, key: &Key) -> Result<FetchResult, Code> {
         pass.shard.fetch(key)
     }
 
-    fn ops_from(&self, pass: &mut Shared, key: &Key, version: u64) -> Result<Vec<Entry>, Code> {
+    fn ops_from(
+        &self,
+        pass: &mut ContendedShard,
+        key: &Key,
+        version: u64,
+    ) -> Result<Vec<Entry>, Code> {
         pass.shard.ops_from(key, version)
     }
 
     fn ops_between(
         &self,
-        pass: &mut Shared,
+        pass: &mut ContendedShard,
         key: &Key,
         from: u64,
         to: u64,
@@ -126,7 +137,7 @@ impl Desk for Meddling {
 
     fn snapshot_at(
         &self,
-        pass: &mut Shared,
+        pass: &mut ContendedShard,
         key: &Key,
         version: Option<u64>,
     ) -> Result<FetchResult, Code> {
@@ -135,20 +146,20 @@ impl Desk for Meddling {
 
     fn snapshot_at_time(
         &self,
-        pass: &mut Shared,
+        pass: &mut ContendedShard,
         key: &Key,
         moment: Option<Moment>,
     ) -> Result<FetchResult, Code> {
         pass.shard.snapshot_at_time(key, moment)
     }
 
-    fn forget(&self, pass: &mut Shared, key: &Key) {
+    fn forget(&self, pass: &mut ContendedShard, key: &Key) {
         pass.shard.forget(key)
     }
 
     fn subscribe(
         &self,
-        pass: &mut Shared,
+        pass: &mut ContendedShard,
         key: &Key,
         version: Option<u64>,
     ) -> Result<SubscribeResult, Code> {
@@ -157,7 +168,7 @@ impl Desk for Meddling {
 
     fn take(
         &self,
-        pass: &mut Shared,
+        pass: &mut ContendedShard,
         key: &Key,
         id: SubId,
         max: u64,
@@ -165,45 +176,45 @@ impl Desk for Meddling {
         pass.shard.take(key, 0, id, max)
     }
 
-    fn unsubscribe(&self, pass: &mut Shared, key: &Key, id: SubId) {
+    fn unsubscribe(&self, pass: &mut ContendedShard, key: &Key, id: SubId) {
         pass.shard.unsubscribe(key, 0, id)
     }
 
-    fn by(&self, _pass: &Shared) -> u64 {
+    fn by(&self, _pass: &ContendedShard) -> u64 {
         0
     }
 }
 
 // Returns the submission under test, which adds 100 and has base version 1.
-fn hundred(rt: &impl Abort, alloc: Global) -> Submission
+fn add_hundred(rt: &impl Abort, alloc: Global) -> Submission
     ensures { result.by ≡ 0 }
 {
-    submission(rt, alloc, "x", 1, Some(1), adding(rt, alloc, 100), 0)
+    submission(rt, alloc, "x", 1, Some(1), increment(rt, alloc, 100), 0)
 }
 
 // Returns a shard with the document `{"n":0}`.
-fn started(rt: &impl Abort, alloc: Global, key: &Key) -> Shard {
+fn shard_with_counter(rt: &impl Abort, alloc: Global, key: &Key) -> Shard {
     let mut shard = Shard::new(alloc);
-    let create = submission(rt, alloc, "w", 0, None, creating(rt, alloc), 0);
+    let create = submission(rt, alloc, "w", 0, None, create_counter(rt, alloc), 0);
     drop(shard.commit_now(key, &create, Moment::zero()));
     shard
 }
 
 // Returns nine submissions that each add 1.
-fn nine(rt: &impl Abort, alloc: Global) -> Vec<Submission> {
+fn nine_increments(rt: &impl Abort, alloc: Global) -> Vec<Submission> {
     let mut others = Vec::new(alloc);
     for seq in 1..=9 {
-        let other = submission(rt, alloc, "w", seq, None, adding(rt, alloc, 1), 0);
+        let other = submission(rt, alloc, "w", seq, None, increment(rt, alloc, 1), 0);
         others.push(other).expect(rt, "out of memory");
     }
     others
 }
 
 #[test]
-fn one_caller_commits_once(rt: HostRuntime) {
+fn one_caller_commits_at_its_first_try(rt: HostRuntime) {
     let key = key(&rt, rt.alloc(), "1");
-    let mut shard = started(&rt, rt.alloc(), &key);
-    let (submission, gate) = (hundred(&rt, rt.alloc()), Tries::new());
+    let mut shard = shard_with_counter(&rt, rt.alloc(), &key);
+    let (submission, gate) = (add_hundred(&rt, rt.alloc()), TryRecorder::new());
     let reply = submit(
         rt.alloc(),
         &Solo,
@@ -213,35 +224,49 @@ fn one_caller_commits_once(rt: HostRuntime) {
         Moment::zero(),
         &gate,
     );
-    assert!(rt; stored(&reply) == Some((1, 0)));
+    assert!(rt; stored_version(&reply) == Some((1, 0)));
     assert!(rt; gate.digits.get() == 1);
 }
 
-fn with_others(rt: &impl Abort, alloc: Global, key: &Key) -> Shared {
-    Shared {
-        shard: started(rt, alloc, key),
-        others: nine(rt, alloc),
+fn contended_shard(rt: &impl Abort, alloc: Global, key: &Key) -> ContendedShard {
+    ContendedShard {
+        shard: shard_with_counter(rt, alloc, key),
+        others: nine_increments(rt, alloc),
     }
 }
 
 // Submits with a concurrent submission before each try, and returns the reply.
-fn submitted(rt: &impl Abort, alloc: Global, pass: &mut Shared, key: &Key, gate: &Tries) -> Reply {
+fn submit_contended(
+    rt: &impl Abort,
+    alloc: Global,
+    pass: &mut ContendedShard,
+    key: &Key,
+    gate: &TryRecorder,
+) -> Reply {
     let now = Moment::zero();
-    submit(alloc, &Meddling, pass, key, &hundred(rt, alloc), now, gate)
+    submit(
+        alloc,
+        &ContendedStore,
+        pass,
+        key,
+        &add_hundred(rt, alloc),
+        now,
+        gate,
+    )
 }
 
 // Returns the version and the number at `n`.
-fn present(rt: &impl Abort, shard: &mut Shard, key: &Key) -> (u64, Option<i64>) {
+fn read_counter(rt: &impl Abort, shard: &mut Shard, key: &Key) -> (u64, Option<i64>) {
     let fetched = shard.fetch(key).expect(rt, "out of memory");
-    (fetched.version, counted(fetched.snapshot.as_ref()))
+    (fetched.version, counter_of(fetched.snapshot.as_ref()))
 }
 
 #[test]
-fn a_commit_without_a_try_decides_after_eight(rt: HostRuntime) {
-    let (key, gate) = (key(&rt, rt.alloc(), "1"), Tries::new());
-    let mut pass = with_others(&rt, rt.alloc(), &key);
-    let reply = submitted(&rt, rt.alloc(), &mut pass, &key, &gate);
-    assert!(rt; stored(&reply) == Some((9, 8)));
+fn commit_last_decides_after_eight_tries(rt: HostRuntime) {
+    let (key, gate) = (key(&rt, rt.alloc(), "1"), TryRecorder::new());
+    let mut pass = contended_shard(&rt, rt.alloc(), &key);
+    let reply = submit_contended(&rt, rt.alloc(), &mut pass, &key, &gate);
+    assert!(rt; stored_version(&reply) == Some((9, 8)));
     assert!(rt; gate.digits.get() == 12_345_678);
-    assert!(rt; present(&rt, &mut pass.shard, &key) == (10, Some(108)));
+    assert!(rt; read_counter(&rt, &mut pass.shard, &key) == (10, Some(108)));
 }

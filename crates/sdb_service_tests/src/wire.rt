@@ -1,6 +1,6 @@
 //! Tests of `sdb_wire`: functions that no program calls, and responses that their lines cannot
 //! cover. The lines of the two programs test the rest.
-use crate::parts::{content, key, submission, text};
+use crate::helpers::{content, key, submission, text};
 use sdb_oplog::{Code, Content, Entry, Moment};
 use sdb_wire::{
     Answer, Echo, MESSAGE_LIMIT, OpText, Request, empty_echo, entry_value, read_message, reply_text,
@@ -9,16 +9,16 @@ use std::alloc::Global;
 use std::process::Abort;
 
 // Parses a fetch and returns its version, or the code of the refusal.
-fn fetched(alloc: Global, text: &str) -> Result<Option<u64>, Code> {
+fn parse_fetch(alloc: Global, text: &str) -> Result<Option<u64>, Code> {
     match read_message(alloc, text) {
         Ok(Request::Fetch { version, .. }) => Ok(version),
         Ok(_) => Ok(None),
-        Err(bad) => Err(bad.code),
+        Err(refusal) => Err(refusal.code),
     }
 }
 
 // Returns a fetch from version 3, padded with spaces to this length in bytes.
-fn padded(rt: &impl Abort, alloc: Global, length: usize) -> String {
+fn padded_fetch(rt: &impl Abort, alloc: Global, length: usize) -> String {
     let mut text = text(rt, alloc, r#"{"a":"f","c":"b","d":"1","v":3}"#);
     for _ in text.len()..length {
         text.push(' ').expect(rt, "out of memory");
@@ -27,28 +27,31 @@ fn padded(rt: &impl Abort, alloc: Global, length: usize) -> String {
 }
 
 #[test]
-fn texts_are_read_up_to_the_limit(rt: HostRuntime) {
+fn messages_are_parsed_up_to_the_limit(rt: HostRuntime) {
     for (length, wanted) in [
         (0, Ok(Some(3))),
         (MESSAGE_LIMIT, Ok(Some(3))),
         (1_048_577, Err(Code::E1)),
     ] {
-        let text = padded(&rt, rt.alloc(), length);
-        assert!(rt; fetched(rt.alloc(), text.as_str()) == wanted, "{length}");
+        let text = padded_fetch(&rt, rt.alloc(), length);
+        assert!(rt;
+            parse_fetch(rt.alloc(), text.as_str()) == wanted,
+            "{length}"
+        );
     }
 }
 
 // Returns whether this text is the response for the error.
-fn is_told(rt: &impl Abort, alloc: Global, echo: &Echo, code: Code, wanted: &str) -> bool {
-    let told = reply_text(alloc, &Answer::Failed { echo, code }).expect(rt, "out of memory");
-    told.as_str() == wanted
+fn is_error_text(rt: &impl Abort, alloc: Global, echo: &Echo, code: Code, wanted: &str) -> bool {
+    let message = reply_text(alloc, &Answer::Failed { echo, code }).expect(rt, "out of memory");
+    message.as_str() == wanted
 }
 
 // Returns whether the text is refused with this response.
 fn is_refused(rt: &impl Abort, alloc: Global, text: &str, wanted: &str) -> bool {
     match read_message(alloc, text) {
         Ok(_) => false,
-        Err(bad) => is_told(rt, alloc, &bad.echo, bad.code, wanted),
+        Err(refusal) => is_error_text(rt, alloc, &refusal.echo, refusal.code, wanted),
     }
 }
 
@@ -56,20 +59,20 @@ const BADLY_FORMED: &str =
     r#"{"a":"f","c":"b","error":{"code":"ERR_MESSAGE_BADLY_FORMED","message":"message is badly formed"},"id":7}"#;
 
 // The response after a failed allocation, which the lines of the programs do not cover.
-const WANTING: &str = r#"{"error":{"code":"ERR_OUT_OF_MEMORY","message":"out of memory"}}"#;
+const OUT_OF_MEMORY: &str = r#"{"error":{"code":"ERR_OUT_OF_MEMORY","message":"out of memory"}}"#;
 
 #[test]
-fn errors_are_told(rt: HostRuntime) {
+fn errors_have_a_code_and_a_message(rt: HostRuntime) {
     let text = r#"{"a":"f","c":"b","id":7}"#;
     assert!(rt;
         is_refused(&rt, rt.alloc(), text, BADLY_FORMED)
-            && is_told(&rt, rt.alloc(), &empty_echo(), Code::E10, WANTING)
+            && is_error_text(&rt, rt.alloc(), &empty_echo(), Code::E10, OUT_OF_MEMORY)
     );
 }
 
 // Returns whether the entry at version 4 with this content, source x and sequence number 7 has this
 // JSON value.
-fn is_shown(rt: &impl Abort, alloc: Global, content: Content, wanted: &str) -> bool {
+fn has_entry_value(rt: &impl Abort, alloc: Global, content: Content, wanted: &str) -> bool {
     let arrived = submission(rt, alloc, "x", 7, None, content, 7);
     let value = entry_value(alloc, &Entry::new(4, Moment::zero(), None, arrived)).expect(
         rt,
@@ -86,22 +89,22 @@ const DELETED: &str = r#"{"del":true,"seq":7,"src":"x","v":4}"#;
 const EDITED: &str = r#"{"op":[{"na":2,"p":[]}],"seq":7,"src":"x","v":4}"#;
 
 #[test]
-fn entries_are_values(rt: HostRuntime) {
+fn entries_are_printed_as_values(rt: HostRuntime) {
     let create = content(
         &rt,
         rt.alloc(),
         r#"{"create":{"type":"json0","data":null}}"#,
     );
     assert!(rt;
-        is_shown(&rt, rt.alloc(), create, CREATED)
-            && is_shown(&rt, rt.alloc(), Content::delete(), DELETED)
+        has_entry_value(&rt, rt.alloc(), create, CREATED)
+            && has_entry_value(&rt, rt.alloc(), Content::delete(), DELETED)
     );
     let edit = content(&rt, rt.alloc(), r#"{"op":[{"na":2,"p":[]}]}"#);
-    assert!(rt; is_shown(&rt, rt.alloc(), edit, EDITED));
+    assert!(rt; has_entry_value(&rt, rt.alloc(), edit, EDITED));
 }
 
 // Returns an entry that creates the document.
-fn an_entry(rt: &impl Abort, alloc: Global, version: u64) -> Entry {
+fn entry_that_creates(rt: &impl Abort, alloc: Global, version: u64) -> Entry {
     let create = content(rt, alloc, r#"{"create":{"type":"json0","data":0}}"#);
     let submission = submission(rt, alloc, "x", 1, None, create, 0);
     Entry::new(version, Moment::zero(), None, submission)
@@ -110,23 +113,26 @@ fn an_entry(rt: &impl Abort, alloc: Global, version: u64) -> Entry {
 // The cached text of an op message is the text of the message, and belongs to no other entry or
 // document.
 #[test]
-fn the_text_of_an_op_message_is_kept(rt: HostRuntime) {
+fn a_cached_op_text_belongs_to_its_entry(rt: HostRuntime) {
     let alloc = rt.alloc();
-    let (entry, next) = (an_entry(&rt, alloc, 0), an_entry(&rt, alloc, 1));
-    let (here, there) = (key(&rt, alloc, "1"), key(&rt, alloc, "2"));
-    let kept = OpText::new(alloc, &here, &entry).expect(&rt, "out of memory");
+    let (entry, next) = (
+        entry_that_creates(&rt, alloc, 0),
+        entry_that_creates(&rt, alloc, 1),
+    );
+    let (key_1, key_2) = (key(&rt, alloc, "1"), key(&rt, alloc, "2"));
+    let cached = OpText::new(alloc, &key_1, &entry).expect(&rt, "out of memory");
     let answer = Answer::OpMessage {
-        key: &here,
+        key: &key_1,
         entry: &entry,
         content: entry.content(),
     };
-    let told = reply_text(alloc, &answer).expect(&rt, "out of memory");
-    let again = reply_text(alloc, &Answer::OpText { text: &kept }).expect(&rt, "out of memory");
+    let message = reply_text(alloc, &answer).expect(&rt, "out of memory");
+    let again = reply_text(alloc, &Answer::OpText { text: &cached }).expect(&rt, "out of memory");
     assert!(rt;
-        kept.as_str() == told.as_str()
-            && again.as_str() == told.as_str()
-            && kept.is_text_of(&here, &entry)
-            && !kept.is_text_of(&here, &next)
-            && !kept.is_text_of(&there, &entry)
+        cached.as_str() == message.as_str()
+            && again.as_str() == message.as_str()
+            && cached.is_text_of(&key_1, &entry)
+            && !cached.is_text_of(&key_1, &next)
+            && !cached.is_text_of(&key_2, &entry)
     );
 }

@@ -521,7 +521,7 @@ impl Session {
         requires accepted { D.accepts desk.now pass.old }
         ensures accepted { D.accepts desk.now pass.new }
         ensures number_unchanged { D.pass_number desk.now pass.new ≡ D.pass_number desk.now pass.old }
-        ensures closes { CloseCalls (D.step desk.now) (queue_of (plain_key key.now) (plain_session self.old).subs)
+        ensures close_calls { CloseCalls (D.step desk.now) (queue_of (plain_key key.now) (plain_session self.old).subs)
             pass.old pass.new }
         ensures output { OutputUnlessFailed result (WroteAnswers O.items (O.contents out.old) (O.contents out.new))
             (unsubscribed (plain_key key.now) ∷ []) }
@@ -638,7 +638,7 @@ fn limit_code<D: Desk>(desk: &D, pass: &mut D::Pass, base: &Key, version: Option
     requires accepted { D.accepts desk.now pass.old }
     ensures accepted { D.accepts desk.now pass.new }
     ensures number_unchanged { D.pass_number desk.now pass.new ≡ D.pass_number desk.now pass.old }
-    ensures refuses { RefuseCalls (D.step desk.now (plain_key base.now)) version pass.old (Err result) pass.new }
+    ensures refuse_calls { RefuseCalls (D.step desk.now (plain_key base.now)) version pass.old (Err result) pass.new }
 {
     match version {
         Some(version) if desk.version(pass, base) < version => Code::E4,

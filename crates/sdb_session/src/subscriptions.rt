@@ -22,7 +22,8 @@ pub(crate) fn close_queue<D: Desk>(desk: &D, pass: &mut D::Pass, queue: Option<&
     requires accepted { D.accepts desk.now pass.old }
     ensures accepted { D.accepts desk.now pass.new }
     ensures number_unchanged { D.pass_number desk.now pass.new ≡ D.pass_number desk.now pass.old }
-    ensures closes { CloseCalls (D.step desk.now) (option_map (λ s. queue_id_of s.now) queue.entry) pass.old pass.new }
+    ensures close_calls { CloseCalls (D.step desk.now) (option_map
+        (λ s. queue_id_of s.now) queue.entry) pass.old pass.new }
 {
     if let Some(queue) = queue {
         desk.unsubscribe(pass, &queue.base, queue.id);

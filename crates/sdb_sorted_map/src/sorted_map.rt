@@ -195,7 +195,7 @@ impl<V: TryClone> SortedMap<V> {
         ensures value { IfOk result (λ o. option_map V.model o
             ≡ lookup (is_at (compare_bytes (string_bytes key))) (map_entry_models V.model self.old)) }
         ensures err { OnErr result (map_entry_models V.model self.new ≡ map_entry_models V.model self.old) }
-        ensures absent { is_unique_map self.old ≡ true → OnErr result
+        ensures absent_on_err { is_unique_map self.old ≡ true → OnErr result
             (lookup (is_at (compare_bytes (string_bytes key))) (map_entry_models V.model self.old) ≡ None) }
         ensures unique { is_unique_map self.old ≡ true → is_unique_map self.new ≡ true }
     {

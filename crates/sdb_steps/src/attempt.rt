@@ -84,7 +84,7 @@ impl OpenAttempt {
 
     // Decides the attempt at a moment on the current log.
     fn commit_now(self, shard: &mut Shard, now: Moment) -> CommitAnswer
-        requires due { is_deciding (one_step_of_shard shard.old) (plain_open_attempt self) ≡ true }
+        requires is_deciding { is_deciding (one_step_of_shard shard.old) (plain_open_attempt self) ≡ true }
         requires has_look { HasLookAt (logs_of shard.old) (Some self) }
         ensures has_look { HasLookAt (logs_of shard.new) result.1 }
         ensures commits { AttemptCommits (one_step_of_shard shard.old) (plain_open_attempt self) now

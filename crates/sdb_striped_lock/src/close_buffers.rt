@@ -52,7 +52,7 @@ pub(crate) fn gather_stripe<T>(columns: &mut Vec<Vec<Seat<T>>>, mut seats: Vec<S
     ensures capacity { (i : ℕ) (d : Vec (LockSeat T) Global) → i < 8
         → vec_capacity (slice_index_or columns.new.items i d) ≡
         vec_capacity (slice_index_or columns.old.items i d) }
-    ensures each { (i : ℕ) (d : Vec (LockSeat T) Global) (s : LockSeat T) → i < 8
+    ensures columns { (i : ℕ) (d : Vec (LockSeat T) Global) (s : LockSeat T) → i < 8
         → (slice_index_or columns.new.items i d).items ≡
         (slice_index_or columns.old.items i d).items ++ slice_index_or seats.items i s ∷ [] }
 {
@@ -70,7 +70,7 @@ pub(crate) fn gather_stripes<T>(
 )
     requires capacity { ColumnsHaveCapacity (length callers.items) columns.old.items }
     ensures length { length columns.new.items ≡ 8 }
-    ensures each { (i : ℕ) (d : Vec (LockSeat T) Global) (s : LockSeat T) → i < 8
+    ensures columns { (i : ℕ) (d : Vec (LockSeat T) Global) (s : LockSeat T) → i < 8
         → (slice_index_or columns.new.items i d).items ≡
         slice_index_or first.seats.items i s ∷ map (λ c. slice_index_or c.seats.items i s) callers.items }
 {

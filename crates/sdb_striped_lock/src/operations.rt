@@ -102,7 +102,7 @@ impl<T: Grows> StripedLock<T> {
         ensures seen { IfOk result (λ s. (i : ℕ) → i < 8 → (x : T) × RootSeatsHaveSeen first.old i x
             × RootSeatsHaveSeen first.new i x × SeatSetHasSeen s i x × T.blank (seat_set_number s) x) }
         ensures unchanged_on_err { OnErr result (first.new ≡ first.old) }
-        ensures last { IfErr result (λ e. e ≡ OutOfNumbers → next_seat_set_number first.old ≡ u64.MAX) }
+        ensures numbers_exhausted { IfErr result (λ e. e ≡ OutOfNumbers → next_seat_set_number first.old ≡ u64.MAX) }
         ensures memory { IfErr result (λ e. e ≡ OutOfMemory → next_seat_set_number first.old ≢ u64.MAX) }
     {
         let number = first.next;
@@ -183,7 +183,7 @@ fn close_stripes<T: Grows>(
     requires all { (i : ℕ) (c : Vec (LockSeat T) Global) → i < 8
         → HasEverySeat (slice_index_or columns.items i c).items }
     ensures length { length result.items ≡ 8 }
-    ensures gives { AtEachIndex (λ c v. IsValueAfterClose T.extends T.same T.blank c.items v) columns.items
+    ensures values { AtEachIndex (λ c v. IsValueAfterClose T.extends T.same T.blank c.items v) columns.items
         result.items 0 8 }
 {
     while let Some(lock) = locks.pop() {

@@ -68,7 +68,7 @@ impl Queues {
 
     /// Returns the number of the next queue, which is the count of numbers issued.
     pub fn next_id(&self) -> u64
-        ensures given { result ≡ (without_rings self.now).next }
+        ensures next_id { result ≡ (without_rings self.now).next }
         ensures below { AreBelowNext (without_rings self.now).next (queue_ids (without_rings self.now).queues) }
     {
         self.next
@@ -130,8 +130,8 @@ impl Queues {
     /// the entry. A full ring buffer drops its oldest entry. If the clone fails to allocate, that
     /// ring buffer is emptied and its queue reads from the log.
     pub fn push_entry(&mut self, entry: &Entry)
-        ensures noted { ArePushed entry.now self.old.queues self.new.queues }
-        ensures bare { without_rings self.new ≡ without_rings self.old }
+        ensures pushed { ArePushed entry.now self.old.queues self.new.queues }
+        ensures queues_unchanged { without_rings self.new ≡ without_rings self.old }
         ensures rings_of_log { (log : List PlainEntry) → AreRingsOfLog log self.old.queues
             → entry.now.version ≡ length log
             → AreRingsOfLog (log ++ entry.now ∷ []) self.new.queues }

@@ -56,8 +56,8 @@ fn commute(component: &Component, other: &Component, side: Side) -> bool
 // Returns `true` only if the paths differ at the last step that both have, so that neither is a
 // prefix of the other.
 fn paths_diverge(path: &[Step], other: &[Step]) -> bool
-    ensures front { IsTrue result → strip_prefix (plain_path path.now) (plain_path other.now) ≡ None }
-    ensures back { IsTrue result → strip_prefix (plain_path other.now) (plain_path path.now) ≡ None }
+    ensures not_prefix { IsTrue result → strip_prefix (plain_path path.now) (plain_path other.now) ≡ None }
+    ensures not_extension { IsTrue result → strip_prefix (plain_path other.now) (plain_path path.now) ≡ None }
 {
     let Some(last) = path.len().min(other.len()).checked_sub(1) else {
         return false;

@@ -33,7 +33,7 @@ pub fn transform_one(
 ) -> Result<Vec<Component>, Fault>
     ensures ok { IfOk result (λ v. transform side component other.now ≡ Some v.items) }
     ensures err { IfErr result (λ f. IsTransformFault f (transform side component other.now)) }
-    ensures light { IfOk result (λ v. weight v.items ≤ component_weight component) }
+    ensures weight { IfOk result (λ v. weight v.items ≤ component_weight component) }
 {
     transform_at_paths(alloc, component, other, side)
 }

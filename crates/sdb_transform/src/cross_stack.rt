@@ -37,9 +37,10 @@ pub(crate) struct CrossState {
 impl CrossState {
     // Processes the next frame.
     pub(crate) fn step(&mut self, alloc: Global, next: Frame) -> Result<(), Fault>
-        ensures keeps { OnOk result ((goal : CrossResult)
+        ensures invariant_preserved { OnOk result ((goal : CrossResult)
             → StateInvariantWith (work_item_of next ∷ []) goal self.old → StateInvariantWith [] goal self.new) }
-        ensures falls { OnOk result (step_bound_with [] self.new < step_bound_with (work_item_of next ∷ []) self.old) }
+        ensures bound_decreases { OnOk result (step_bound_with [] self.new < step_bound_with (work_item_of next
+            ∷ []) self.old) }
         ensures refused { IfErr result (λ f. (goal : CrossResult)
             → StateInvariantWith (work_item_of next ∷ []) goal self.old → IsTransformFault f goal) }
     {
@@ -51,9 +52,10 @@ impl CrossState {
 
     // Transforms a right component against the left ones, while it stays a single component.
     fn transform_next(&mut self, alloc: Global, mut right: Component) -> Result<(), Fault>
-        ensures keeps { OnOk result ((goal : CrossResult)
+        ensures invariant_preserved { OnOk result ((goal : CrossResult)
             → StateInvariantWith (RightChange right ∷ []) goal self.old → StateInvariantWith [] goal self.new) }
-        ensures falls { OnOk result (step_bound_with [] self.new < step_bound_with (RightChange right ∷ []) self.old) }
+        ensures bound_decreases { OnOk result (step_bound_with [] self.new < step_bound_with (RightChange right
+            ∷ []) self.old) }
         ensures refused { IfErr result (λ f. (goal : CrossResult)
             → StateInvariantWith (RightChange right ∷ []) goal self.old → IsTransformFault f goal) }
     {

@@ -36,10 +36,10 @@ pub fn pairs_within_product()
 ///
 /// The bound requires that no index or offset of the transforms exceeds 9007199254740991.
 pub fn meet(document: &Json, a: &Component, b: &Component)
-    requires a_made { WellMade a.now (value_of document.now) }
-    requires b_made { WellMade b.now (value_of document.now) }
-    requires a_fits { StaysInRange Left a.now b.now }
-    requires b_fits { StaysInRange Right b.now a.now }
+    requires a_well_made { WellMade a.now (value_of document.now) }
+    requires b_well_made { WellMade b.now (value_of document.now) }
+    requires a_in_range { StaysInRange Left a.now b.now }
+    requires b_in_range { StaysInRange Right b.now a.now }
     ensures { ConvergesOrOverflows (value_of document.now) a.now b.now }
 {
     well_formed(document);

@@ -184,8 +184,8 @@ fn clone_chunk(
 fn clone_chunk_pointer<T>(chunk: &Chunk<T>, mode: CloneMode) -> Result<Option<Chunk<T>>, AllocError>
     ensures equal { IfOk result (λ o. IfSome o (λ b. items_of b ≡ items_of chunk.now)) }
     ensures shared { IfOk result (λ o. IfSome o (λ b. is_chunk_shared b ≡ true)) }
-    ensures was { IfOk result (λ o. IfSome o (λ _. is_chunk_shared chunk.now ≡ true)) }
-    ensures other { IfOk result (λ o. IfSome o (λ _. mode ≡ Unique → ⊥)) }
+    ensures was_shared { IfOk result (λ o. IfSome o (λ _. is_chunk_shared chunk.now ≡ true)) }
+    ensures not_unique_mode { IfOk result (λ o. IfSome o (λ _. mode ≡ Unique → ⊥)) }
     ensures none { IfOk result (λ o. IfNone o (mode ≡ Preserve → is_chunk_unique chunk.now ≡ true)) }
 {
     match mode {

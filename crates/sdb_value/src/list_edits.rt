@@ -94,7 +94,7 @@ pub(crate) fn take_list_item(
     ensures left { OnOk result (list_value items.new ≡ set_item index (list_value items.old) null) }
     ensures err { OnErr result (list_value items.new ≡ list_value items.old) }
     ensures unique { list_unique items.old ≡ true → list_unique items.new ≡ true }
-    ensures item_own { list_unique items.old ≡ true → IfOk result (λ o. IfSome o (λ v. is_unique v ≡ true)) }
+    ensures item_unique { list_unique items.old ≡ true → IfOk result (λ o. IfSome o (λ v. is_unique v ≡ true)) }
     ensures shared_on_err { OnErr result (is_unique_vec_at items.old index ≡ false) }
     ensures unique_after { IfOk result (λ o. IfSome o (λ _. is_unique_vec_at items.new index ≡ true)) }
 {

@@ -28,7 +28,7 @@ pub fn put_at_key(
     ensures ok { OnOk result (object_value members.new
         ≡ put_member (string_bytes key) (value_of new) (object_value members.old)) }
     ensures err { OnErr result (object_value members.new ≡ object_value members.old) }
-    ensures absent { is_unique_map members.old ≡ true
+    ensures absent_on_err { is_unique_map members.old ≡ true
         → OnErr result (member_at (string_bytes key) (object_value members.old) ≡ None) }
     ensures unique { object_unique members.old ≡ true → is_unique new ≡ true → object_unique members.new ≡ true }
 {
@@ -69,7 +69,7 @@ pub(crate) fn take_member(
     ensures err { OnErr result (values_of_entries entries.new ≡ values_of_entries entries.old) }
     ensures err_names { OnErr result (vec_keys entries.new ≡ vec_keys entries.old) }
     ensures unique { entries_unique entries.old ≡ true → entries_unique entries.new ≡ true }
-    ensures value_own { entries_unique entries.old ≡ true
+    ensures value_unique { entries_unique entries.old ≡ true
         → IfOk result (λ o. IfSome o (λ m. is_unique m.value ≡ true)) }
     ensures shared_on_err { OnErr result (is_unique_vec_at entries.old index ≡ false) }
     ensures unique_after { IfOk result (λ o. IfSome o (λ _. is_unique_vec_at entries.new index ≡ true)) }

@@ -85,9 +85,9 @@ fn answer_bytes(alloc: Global, answer: &Answer<'_>) -> Result<Vec<u8>, AllocErro
 
 // Returns the parts of an operation message of an edit whose names have no character to escape.
 fn fast_edit<'a>(answer: &'a Answer<'_>) -> Option<(&'a Key, &'a Entry, &'a Op)>
-    ensures told { IfSome result (λ t. plain_answer answer.now
+    ensures answer { IfSome result (λ t. plain_answer answer.now
         ≡ op_message (plain_key t.0.now) (with_content t.1.now (edit t.2.now))) }
-    ensures plain { IfSome result (λ t. AreEscapeFree (plain_key t.0.now) (t.1.now).arrived.src) }
+    ensures escape_free { IfSome result (λ t. AreEscapeFree (plain_key t.0.now) (t.1.now).arrived.src) }
 {
     let Answer::OpMessage {
         key,

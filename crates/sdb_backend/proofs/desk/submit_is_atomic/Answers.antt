@@ -7,8 +7,8 @@ pub returns-clause-decides : goal.returns-clause-decides
 returns-clause-decides g c =
     in_one_step (plain_key c.args.key.now) c.args.submission.now c.args.now c.args.pass.now c.submit.new.pass (plain_reply c.submit.result) c.submit.ensures.chain
 
-pub returns-clause-adds : goal.returns-clause-adds
-returns-clause-adds g c =
+pub returns-clause-adds_entry : goal.returns-clause-adds_entry
+returns-clause-adds_entry g c =
     let k = plain_key c.args.key.now in
     let s = c.args.submission.now in
     let now = c.args.now in

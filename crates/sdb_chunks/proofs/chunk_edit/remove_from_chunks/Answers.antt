@@ -63,8 +63,8 @@ returns-clause-unique g c =
     let at = subst (λ l. IsItemPosition (chunk_models f) l c.args.index k c.in-Some.inside) c.deref.ensures.value c.in-Some.ensures.item in
     λ all. c.remove_empty_chunk.ensures.unique (unique_changed bs k c.chunk_remove.new.chunk d at.index_in_range c.index_mut.ensures.value c.in_ok-item.ensures.unique all)
 
-pub returns-in_err-item-clause-shared_there : goal.returns-in_err-item-clause-shared_there
-returns-in_err-item-clause-shared_there g c =
+pub returns-in_err-item-clause-item_shared_on_err : goal.returns-in_err-item-clause-item_shared_on_err
+returns-in_err-item-clause-item_shared_on_err g c =
     let f = g.T.TryClone.model in
     let bs = c.args.chunks.now.items in
     let k = c.in-Some.at in

@@ -59,7 +59,7 @@ returns-clause-unique g c =
     let a = c.split_off_half.new.chunk in
     let b = c.in_ok-high.high in
     λ all. ap (λ l. all_unique (set (set l k a) (k + 1) b)) put
-    ∙ unique_set (set (insert bs (k + 1) e) k a) (k + 1) b c.in_ok-high.ensures.other (unique_inserted bs k a e d c.requires refl is c.in_ok-high.ensures.unique all)
+    ∙ unique_set (set (insert bs (k + 1) e) k a) (k + 1) b c.in_ok-high.ensures.new_unique (unique_inserted bs k a e d c.requires refl is c.in_ok-high.ensures.unique all)
 
 pub returns-in_err-high-clause-bound : goal.returns-in_err-high-clause-bound
 returns-in_err-high-clause-bound g c =

@@ -14,11 +14,11 @@ returns-clause-same g c = joined_alike g.T.TryClone.model _ _ c.make_unique.ensu
 pub returns-clause-unchanged : goal.returns-clause-unchanged
 returns-clause-unchanged g c = unique_alike g.T.TryClone.model _ _ c.make_unique.ensures.unchanged
 
-pub returns-in_err-make_unique-clause-among : goal.returns-in_err-make_unique-clause-among
-returns-in_err-make_unique-clause-among g c = among_alike g.T.TryClone.model _ _ c.make_unique.ensures.unchanged
+pub returns-in_err-make_unique-clause-uniqueness_unchanged : goal.returns-in_err-make_unique-clause-uniqueness_unchanged
+returns-in_err-make_unique-clause-uniqueness_unchanged g c = among_alike g.T.TryClone.model _ _ c.make_unique.ensures.unchanged
 
-pub returns-clause-among : goal.returns-clause-among
-returns-clause-among g c = among_alike g.T.TryClone.model _ _ c.make_unique.ensures.unchanged
+pub returns-clause-uniqueness_unchanged : goal.returns-clause-uniqueness_unchanged
+returns-clause-uniqueness_unchanged g c = among_alike g.T.TryClone.model _ _ c.make_unique.ensures.unchanged
 
 pub returns-in_err-make_unique-clause-bound : goal.returns-in_err-make_unique-clause-bound
 returns-in_err-make_unique-clause-bound g c = longest_alike g.T.TryClone.model _ _ c.make_unique.ensures.unchanged

@@ -8,4 +8,4 @@ pub returns-in_err-old-in-Unique-clause-shared_on_err : goal.returns-in_err-old-
 returns-in_err-old-in-Unique-clause-shared_on_err g c =
     let i = c.args.index in
     on_err c.from_residual-in_err-old-in-Unique.result (false_cond (is_chunk_unique c.args.chunks.now) (is_unique_at (items_of c.args.chunks.now) i)
-    (sym (c.in_ok-make_chunks_unique.ensures.among i) ∙ ap (λ b. is_unique_at (items_of b) i) c.in-Unique.is ∙ c.in_err-old-in-Unique.ensures.shared_on_err))
+    (sym (c.in_ok-make_chunks_unique.ensures.uniqueness_unchanged i) ∙ ap (λ b. is_unique_at (items_of b) i) c.in-Unique.is ∙ c.in_err-old-in-Unique.ensures.shared_on_err))

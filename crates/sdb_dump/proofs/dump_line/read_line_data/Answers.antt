@@ -7,8 +7,8 @@ use Rattle.sdb_dump.proofs.LimitLemmas.{submission_fits, key_fits}
 use Rattle.sdb_dump.proofs.StoreLemmas.{made_of}
 use Rattle.sdb_dump.proofs.dump_line.read_line_data.Goals as goal
 
-pub returns-clause-fits : goal.returns-clause-fits
-returns-clause-fits c =
+pub returns-clause-in_limits : goal.returns-clause-in_limits
+returns-clause-in_limits c =
     let d = tree_view c.args.value.now in
     let key = made_of (λ (k : Key). key_of d ≡ Ok (plain_key k)) c.read_key.result c.none_if_refused.result c.in_ok-key.field-0 c.in-Some.key c.none_if_refused.ensures c.in_ok-key.was c.in-Some.is c.read_key.ensures.ok in (
       key_fits d (plain_key c.in-Some.key) key c.key_texts.ensures,

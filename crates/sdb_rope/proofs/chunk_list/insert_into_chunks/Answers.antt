@@ -40,9 +40,9 @@ returns-in_err-make_unique-clause-chunks_bounded c = λ a. subst AreBounded (sym
 pub returns-in_err-done-in-Unique-clause-chunks_bounded : goal.returns-in_err-done-in-Unique-clause-chunks_bounded
 returns-in_err-done-in-Unique-clause-chunks_bounded c =
     let s = same_seen (items_of c.make_unique.new.self) (items_of c.args.chunk_list.now) c.make_unique.ensures.unchanged in
-    λ a. c.insert.ensures.short (subst AreBounded (sym (sym (ap chunk_texts c.in-Unique.is) ∙ s.0)) a)
+    λ a. c.insert.ensures.chunks_bounded (subst AreBounded (sym (sym (ap chunk_texts c.in-Unique.is) ∙ s.0)) a)
 
 pub returns-clause-chunks_bounded : goal.returns-clause-chunks_bounded
 returns-clause-chunks_bounded c =
     let s = same_seen (items_of c.make_unique.new.self) (items_of c.args.chunk_list.now) c.make_unique.ensures.unchanged in
-    λ a. c.insert.ensures.short (subst AreBounded (sym (sym (ap chunk_texts c.in-Unique.is) ∙ s.0)) a)
+    λ a. c.insert.ensures.chunks_bounded (subst AreBounded (sym (sym (ap chunk_texts c.in-Unique.is) ∙ s.0)) a)

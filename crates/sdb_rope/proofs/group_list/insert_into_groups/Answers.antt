@@ -23,7 +23,7 @@ returns-in_err-done-in-Unique-clause-err c =
 pub returns-in_err-done-in-Unique-clause-chunks_bounded : goal.returns-in_err-done-in-Unique-clause-chunks_bounded
 returns-in_err-done-in-Unique-clause-chunks_bounded c =
     let here = sym (ap (λ b. texts_of_groups (items_of b)) c.in-Unique.is) ∙ same_groups (items_of c.make_unique.new.self) (items_of c.args.groups.now) c.make_unique.ensures.unchanged in
-    λ a. c.insert_in_group_list.ensures.short (subst AreBounded (sym here) a)
+    λ a. c.insert_in_group_list.ensures.chunks_bounded (subst AreBounded (sym here) a)
 
 pub returns-clause-ok : goal.returns-clause-ok
 returns-clause-ok c =
@@ -33,4 +33,4 @@ returns-clause-ok c =
 pub returns-clause-chunks_bounded : goal.returns-clause-chunks_bounded
 returns-clause-chunks_bounded c =
     let here = sym (ap (λ b. texts_of_groups (items_of b)) c.in-Unique.is) ∙ same_groups (items_of c.make_unique.new.self) (items_of c.args.groups.now) c.make_unique.ensures.unchanged in
-    λ a. c.insert_in_group_list.ensures.short (subst AreBounded (sym here) a)
+    λ a. c.insert_in_group_list.ensures.chunks_bounded (subst AreBounded (sym here) a)

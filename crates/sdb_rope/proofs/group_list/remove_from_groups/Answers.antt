@@ -32,7 +32,7 @@ returns-clause-removed c =
 pub returns-clause-equal : goal.returns-clause-equal
 returns-clause-equal c =
     let here = sym (ap (λ b. texts_of_groups (items_of b)) c.in-Unique.is) ∙ same_groups (items_of c.make_unique.new.self) (items_of c.args.groups.now) c.make_unique.ensures.unchanged in
-    λ e. c.in_ok-done-in-Unique.ensures.same e ∙ ap concat here
+    λ e. c.in_ok-done-in-Unique.ensures.equal e ∙ ap concat here
 
 pub returns-clause-chunks_bounded : goal.returns-clause-chunks_bounded
 returns-clause-chunks_bounded c =

@@ -24,13 +24,13 @@ pub returns-in_err-done-clause-err : goal.returns-in_err-done-clause-err
 returns-in_err-done-clause-err c =
     let ps = c.args.chunks.now.items in
     on_err c.from_residual.result (ap concat (same_set ps c.args.at c.insert.new.self
-    (c.in_err-done.ensures.err ∙ sym (text_at ps c.args.at c.index_mut.result.now c.requires.inside c.index_mut.ensures.value))))
+    (c.in_err-done.ensures.err ∙ sym (text_at ps c.args.at c.index_mut.result.now c.requires.in_list c.index_mut.ensures.value))))
 
 pub returns-then-as_str-new-le-MAX_CHUNK_LEN-clause-ok : goal.returns-then-as_str-new-le-MAX_CHUNK_LEN-clause-ok
 returns-then-as_str-new-le-MAX_CHUNK_LEN-clause-ok c =
     let ps = c.args.chunks.now.items in
-    put_chunk ps c.insert.new.self c.args.new.now c.args.at c.args.byte c.requires.inside
-    (c.in_ok-done.ensures.ok ∙ ap (λ l. insert_slice l c.args.byte c.args.new.now) (sym (text_at ps c.args.at c.index_mut.result.now c.requires.inside c.index_mut.ensures.value)))
+    put_chunk ps c.insert.new.self c.args.new.now c.args.at c.args.byte c.requires.in_list
+    (c.in_ok-done.ensures.ok ∙ ap (λ l. insert_slice l c.args.byte c.args.new.now) (sym (text_at ps c.args.at c.index_mut.result.now c.requires.in_list c.index_mut.ensures.value)))
 
 pub returns-clause-ok : goal.returns-clause-ok
 returns-clause-ok c =
@@ -40,8 +40,8 @@ returns-clause-ok c =
     let all : it.1 ≡ fresh.items = sym (map-id it.1) ∙ items_from_drains it.1 (if_drains (into_iter_steps {X = RopeChunk} {Z = Global}) it.0 it.1 it.3) (YieldsList-from_vec {s = it.0} fresh.items it.2.0 (it.2.1 ∙ fresh.ok.0)) in
     let whole : concat (chunk_list_texts fresh.items) ≡ insert_slice (chunk_bytes c.index-2.result.now) c.args.byte c.args.new.now = c.in_ok-fresh.ensures.ok ∙ ap (λ l. insert_slice l c.args.byte c.args.new.now) c.as_str-2.ensures in
     ap (λ l. concat (chunk_list_texts l)) (it.4 ∙ ap (splice ps c.args.at (c.args.at + 1)) all)
-    ∙ put_chunks ps fresh.items c.args.new.now c.args.at c.args.byte c.requires.inside
-    (whole ∙ ap (λ l. insert_slice l c.args.byte c.args.new.now) (sym (text_at ps c.args.at c.index-2.result.now c.requires.inside c.index-2.ensures)))
+    ∙ put_chunks ps fresh.items c.args.new.now c.args.at c.args.byte c.requires.in_list
+    (whole ∙ ap (λ l. insert_slice l c.args.byte c.args.new.now) (sym (text_at ps c.args.at c.index-2.result.now c.requires.in_list c.index-2.ensures)))
 
 pub returns-clause-unique : goal.returns-clause-unique
 returns-clause-unique c =
@@ -57,13 +57,13 @@ pub returns-in_err-done-clause-chunks_bounded : goal.returns-in_err-done-clause-
 returns-in_err-done-clause-chunks_bounded c =
     let ps = c.args.chunks.now.items in
     λ a. subst AreBounded (sym (same_set ps c.args.at c.insert.new.self
-    (c.in_err-done.ensures.err ∙ sym (text_at ps c.args.at c.index_mut.result.now c.requires.inside c.index_mut.ensures.value)))) a
+    (c.in_err-done.ensures.err ∙ sym (text_at ps c.args.at c.index_mut.result.now c.requires.in_list c.index_mut.ensures.value)))) a
 
 pub returns-then-as_str-new-le-MAX_CHUNK_LEN-clause-chunks_bounded : goal.returns-then-as_str-new-le-MAX_CHUNK_LEN-clause-chunks_bounded
 returns-then-as_str-new-le-MAX_CHUNK_LEN-clause-chunks_bounded c =
     let ps = c.args.chunks.now.items in
     let was = chunk_bytes c.index_mut.result.now in
-    let same : was ≡ c.as_str.result.now = sym (text_at ps c.args.at c.index_mut.result.now c.requires.inside c.index_mut.ensures.value) ∙ text_at ps c.args.at c.index.result.now c.requires.inside c.index.ensures ∙ sym c.as_str.ensures in
+    let same : was ≡ c.as_str.result.now = sym (text_at ps c.args.at c.index_mut.result.now c.requires.in_list c.index_mut.ensures.value) ∙ text_at ps c.args.at c.index.result.now c.requires.in_list c.index.ensures ∙ sym c.as_str.ensures in
     let size : length (chunk_bytes c.insert.new.self) ≤ 4096 = omega (arith, ap length c.in_ok-done.ensures.ok, length_put was c.args.new.now c.args.byte, ap length same, c.if-as_str-new-le-MAX_CHUNK_LEN.true) in
     λ a. short_set ps c.args.at c.insert.new.self size a
 

@@ -21,13 +21,13 @@ returns-clause-bytes c =
     let k = c.args.span.first in
     let m = c.args.span.last in
     let last : m < length ps = omega (arith, c.requires.range.index_in_range, length_of_texts ps) in
-    let first : k < length ps = omega (arith, last, c.requires.apart) in
+    let first : k < length ps = omega (arith, last, c.requires.distinct_chunks) in
     let a : chunk_bytes c.remove.new.self ≡ take c.args.span.from (chunk_text (chunk_list_texts ps) k) =
     c.remove.ensures.bytes ∙ ap (λ l. remove_range l c.args.span.from (length c.as_str-len.result.now)) (sym (text_at ps k c.index_mut.result.now first c.index_mut.ensures.value))
     ∙ front (chunk_text (chunk_list_texts ps) k) c.args.span.from (length c.as_str-len.result.now) (ap length (c.as_str-len.ensures ∙ sym (text_at ps k c.index.result.now first c.index.ensures))) in
-    let b : chunk_bytes c.remove-2.new.self ≡ drop c.args.span.to (chunk_text (chunk_list_texts ps) m) = c.remove-2.ensures.bytes ∙ ap (drop c.args.span.to) (sym (read_later ps c.remove.new.self c.index_mut-2.result.now k m c.requires.apart last c.index_mut-2.ensures.value)) in
+    let b : chunk_bytes c.remove-2.new.self ≡ drop c.args.span.to (chunk_text (chunk_list_texts ps) m) = c.remove-2.ensures.bytes ∙ ap (drop c.args.span.to) (sym (read_later ps c.remove.new.self c.index_mut-2.result.now k m c.requires.distinct_chunks last c.index_mut-2.ensures.value)) in
     c.remove_empty_chunk-2.ensures.unchanged ∙ c.remove_empty_chunk.ensures.unchanged ∙ ap (λ l. concat (chunk_list_texts l)) c.remove_chunks_between.ensures
-    ∙ cut_chunks_out ps c.remove.new.self c.remove-2.new.self k m (k + 1) c.args.span.from c.args.span.to c.requires.apart last (add-one k) a b
+    ∙ cut_chunks_out ps c.remove.new.self c.remove-2.new.self k m (k + 1) c.args.span.from c.args.span.to c.requires.distinct_chunks last (add-one k) a b
 
 pub returns-clause-unique : goal.returns-clause-unique
 returns-clause-unique c =
@@ -45,11 +45,11 @@ returns-clause-chunks_bounded c =
     let k = c.args.span.first in
     let m = c.args.span.last in
     let last : m < length ps = omega (arith, c.requires.range.index_in_range, length_of_texts ps) in
-    let first : k < length ps = omega (arith, last, c.requires.apart) in
+    let first : k < length ps = omega (arith, last, c.requires.distinct_chunks) in
     let a : chunk_bytes c.remove.new.self ≡ take c.args.span.from (chunk_text (chunk_list_texts ps) k) =
     c.remove.ensures.bytes ∙ ap (λ l. remove_range l c.args.span.from (length c.as_str-len.result.now)) (sym (text_at ps k c.index_mut.result.now first c.index_mut.ensures.value))
     ∙ front (chunk_text (chunk_list_texts ps) k) c.args.span.from (length c.as_str-len.result.now) (ap length (c.as_str-len.ensures ∙ sym (text_at ps k c.index.result.now first c.index.ensures))) in
-    let b : chunk_bytes c.remove-2.new.self ≡ drop c.args.span.to (chunk_text (chunk_list_texts ps) m) = c.remove-2.ensures.bytes ∙ ap (drop c.args.span.to) (sym (read_later ps c.remove.new.self c.index_mut-2.result.now k m c.requires.apart last c.index_mut-2.ensures.value)) in
+    let b : chunk_bytes c.remove-2.new.self ≡ drop c.args.span.to (chunk_text (chunk_list_texts ps) m) = c.remove-2.ensures.bytes ∙ ap (drop c.args.span.to) (sym (read_later ps c.remove.new.self c.index_mut-2.result.now k m c.requires.distinct_chunks last c.index_mut-2.ensures.value)) in
     let all = set (set ps k c.remove.new.self) m c.remove-2.new.self in
     λ own.
     let one : length (chunk_bytes c.remove.new.self) ≤ 4096 = omega (arith, ap length a, length-take c.args.span.from (chunk_text (chunk_list_texts ps) k), own k [] (omega (arith, first, length_of_texts ps))) in

@@ -4,7 +4,7 @@ use Rattle.std.proofs.Crossing.{crosses}
 use Rattle.sdb_backend.specs.PassModel.{IsHostOfBackend, IsPassOfBackend}
 use Rattle.sdb_growlock.specs.LockRule.{ForEach}
 use Rattle.sdb_server.proofs.SendSync.{ServerState-send, ServerState-sync}
-use Rattle.sdb_server_tests.proofs.connections.a_server_that_is_stopped.Goals as goal
+use Rattle.sdb_server_tests.proofs.connections.a_stopped_server_returns_its_passes_and_entries.Goals as goal
 
 pub listen_until_stopped-requires-after_bounds : goal.listen_until_stopped-requires-after_bounds
 listen_until_stopped-requires-after_bounds g c κs = c.in_ok-state.ensures c.in_ok-backend.host c.in_ok-backend.ensures.host

@@ -3,7 +3,7 @@ use Rattle.std.proofs.Crossing.{crosses}
 use Rattle.std.proofs.MapsCrossing as maps
 use Rattle.sdb_backend.proofs.SendSync.{Pass-send, Backend-sync, Submission-sync}
 use Rattle.sdb_backend.proofs.ReplySend.{Key-sync}
-use Rattle.sdb_service_tests.proofs.backend.nobody_waits_for_a_submission_that_is_held.Goals as goal
+use Rattle.sdb_service_tests.proofs.backend.a_blocked_submission_blocks_no_other.Goals as goal
 
 pub join-slow-requires-send-F : goal.join-slow-requires-send-F
 join-slow-requires-send-F g c κs within = search (sendable, crosses, maps.crosses, Pass-send, Backend-sync, Key-sync, Submission-sync) depth 30
@@ -11,5 +11,5 @@ join-slow-requires-send-F g c κs within = search (sendable, crosses, maps.cross
 pub join-slow-requires-send-A : goal.join-slow-requires-send-A
 join-slow-requires-send-A g c κs within = search (sendable, crosses, Pass-send) depth 20
 
-pub fetched-requires : goal.fetched-requires
-fetched-requires g c = c.join-slow.ensures.first
+pub fetch_counter-requires : goal.fetch_counter-requires
+fetch_counter-requires g c = c.join-slow.ensures.first

@@ -4,7 +4,7 @@ use Rattle.sdb_backend.specs.PassModel.{IsHostOfBackend, IsPassOfBackend}
 use Rattle.sdb_backend.specs.declared.pass.Host.{Host}
 use Rattle.sdb_backend.specs.declared.pass.Pass.{Pass}
 use Rattle.sdb_service_tests.proofs.Passes.{each_pushed}
-use Rattle.sdb_service_tests.proofs.backend.closed.Goals as goal
+use Rattle.sdb_service_tests.proofs.backend.close_after_refusal.Goals as goal
 
 pub close-requires-2-clause-host : goal.close-requires-2-clause-host
 close-requires-2-clause-host g c =

@@ -3,7 +3,7 @@ use Rattle.std.proofs.Crossing.{crosses}
 use Rattle.std.proofs.MapsCrossing as maps
 use Rattle.sdb_backend.proofs.SendSync.{Pass-send, Backend-sync}
 use Rattle.sdb_backend.proofs.ReplySend.{Key-sync}
-use Rattle.sdb_service_tests.proofs.backend.what_threads_store_is_taken_in_order.Goals as goal
+use Rattle.sdb_service_tests.proofs.backend.entries_of_two_threads_are_taken_in_order.Goals as goal
 
 pub join-first-requires-send-F : goal.join-first-requires-send-F
 join-first-requires-send-F g c κs within = search (sendable, crosses, maps.crosses, Pass-send, Backend-sync, Key-sync) depth 30
@@ -14,5 +14,5 @@ join-first-requires-send-A g c κs within = search (sendable, crosses, Pass-send
 pub is_unknown-requires : goal.is_unknown-requires
 is_unknown-requires g c = c.join-first.ensures.first
 
-pub ended-audit-requires-clause-second : goal.ended-audit-requires-clause-second
-ended-audit-requires-clause-second g c = c.join-first.ensures.second
+pub close_with_three_passes-audit-requires-clause-second : goal.close_with_three_passes-audit-requires-clause-second
+close_with_three_passes-audit-requires-clause-second g c = c.join-first.ensures.second

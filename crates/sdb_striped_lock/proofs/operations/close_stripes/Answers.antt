@@ -59,7 +59,7 @@ loop-lock-preserved g c =
     let here : P (length values) v = λ x.
     subst (λ (y : Vec (Seat g.row.T.Denot) Global). IsValueAfterClose r.extends r.same r.blank y.items v)
     (sym (ap (λ (j : ℕ). slice_index_or c.args.columns.items j x) (sym at) ∙ last_of_pop c.loop-lock.columns.items c.pop-in-Some.new.self.items c.args.columns.items c.in-Some-pop.column c.in-Some-pop.ensures.items inv.columns x))
-    (c.close.ensures.seen, c.close.ensures.clear) in
+    (c.close.ensures.seen, c.close.ensures.blank) in
     let all = each_item_of_push P values (length values) v (omega arith) (λ i y from lt x. inv.gives i x y lt) here in
     record {
       same = omega (arith, n, k, s);
@@ -71,8 +71,8 @@ loop-lock-preserved g c =
           (all i y (omega arith) (omega (arith, lt, long)) x);
     }
 
-pub returns-clause-gives : goal.returns-clause-gives
-returns-clause-gives g c =
+pub returns-clause-values : goal.returns-clause-values
+returns-clause-values g c =
     λ i x y from lt.
     let r = g.T.Grows in
     let inv = c.loop-lock.invariant in

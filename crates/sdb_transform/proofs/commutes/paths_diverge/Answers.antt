@@ -4,8 +4,8 @@ use Rattle.sdb_value.specs.View.{plain_step, plain_path}
 use Rattle.sdb_transform.proofs.UnchangedLemmas.{paths_diverge_at, step_at, false_of_not}
 use Rattle.sdb_transform.proofs.commutes.paths_diverge.Goals as goal
 
-pub returns-clause-front : goal.returns-clause-front
-returns-clause-front c parts =
+pub returns-clause-not_prefix : goal.returns-clause-not_prefix
+returns-clause-not_prefix c parts =
     let a = c.args.path.now in
     let b = c.args.other.now in
     let k = c.in-Some.last in
@@ -18,8 +18,8 @@ returns-clause-front c parts =
     (λ same. c.paths_equal.ensures.on_false (false_of_not c.paths_equal.result parts)
     (ap plain_path c.from_ref.ensures.value ∙ ap (λ s. s ∷ []) same ∙ sym (ap plain_path c.from_ref-2.ensures.value)))
 
-pub returns-clause-back : goal.returns-clause-back
-returns-clause-back c parts =
+pub returns-clause-not_extension : goal.returns-clause-not_extension
+returns-clause-not_extension c parts =
     let a = c.args.path.now in
     let b = c.args.other.now in
     let k = c.in-Some.last in

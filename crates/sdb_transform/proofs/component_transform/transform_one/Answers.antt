@@ -13,5 +13,5 @@ light_result : (r : Result (Vec Component Global) Fault) (side : Side) (c o : Pl
 light_result (Ok v) side c o e = never_rises side c o v.items e
 light_result (Err f) side c o e = tt
 
-pub returns-clause-light : goal.returns-clause-light
-returns-clause-light c = light_result c.transform_at_paths.result c.args.side c.args.component c.args.other.now c.transform_at_paths.ensures
+pub returns-clause-weight : goal.returns-clause-weight
+returns-clause-weight c = light_result c.transform_at_paths.result c.args.side c.args.component c.args.other.now c.transform_at_paths.ensures

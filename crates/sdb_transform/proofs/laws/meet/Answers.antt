@@ -9,8 +9,8 @@ returns c =
       formed = c.well_formed-2.ensures;
       a_texts = c.has_texts.ensures;
       b_texts = c.has_texts-2.ensures;
-      a_made = c.requires.a_made;
-      b_made = c.requires.b_made;
-      a_fits = c.requires.a_fits;
-      b_fits = c.requires.b_fits;
+      a_made = c.requires.a_well_made;
+      b_made = c.requires.b_well_made;
+      a_fits = c.requires.a_in_range;
+      b_fits = c.requires.b_in_range;
     })

@@ -70,7 +70,7 @@ clone_list-returns-in_default-inner t c =
     record {
       items = made_view l new bs c.from_chunks.ensures.chunks c.in_ok-copies.ensures.items;
       unique = by_mode c.chunk_clone_mode-inner.result c.args.mode (is_grouped l.repr) (list_unique l) (list_unique new) (is_shared_vec new) inner.copied (in_groups_unique is_unique l) (shared_list_unique is_unique new) (made_of_chunks is_unique c.chunk_clone_mode-inner.result l new bs c.in_default-inner.not-Frozen inner.in_blocks
-          (λ same. not_found c.in_ok-list.field-0 c.in_default.not-Some c.in_ok-list.ensures.none (inner.same same)) c.from_chunks.ensures.chunks
+          (λ same. not_found c.in_ok-list.field-0 c.in_default.not-Some c.in_ok-list.ensures.none (inner.equal same)) c.from_chunks.ensures.chunks
           c.from_chunks.ensures.unique c.in_ok-copies.ensures.unique);
     }
 
@@ -165,7 +165,7 @@ clone_members-returns-in_default-inner t c =
       members = ap (λ (q : ChunkedVec (MapEntry Json)). entries_value (vec_items q)) c.from_entries-in_default-inner.ensures
           ∙ ap (λ b. entries_value (flat_map items_of b)) c.from_chunks.ensures.chunks ∙ c.in_ok-copies.ensures.members
           ∙ ap (λ (q : ChunkedVec (MapEntry Json)). entries_value (vec_items q)) c.chunks-2.ensures.equal;
-      own = subst Q (sym c.from_entries-in_default-inner.ensures)
+      unique = subst Q (sym c.from_entries-in_default-inner.ensures)
           (by_mode kind c.args.mode (is_grouped c.chunks.result.now.repr) (object_unique m) (entries_unique new) (is_shared_vec new) inner.copied
           (λ h. in_groups_unique value_own l (ap (λ (q : ChunkedVec (MapEntry Json)). is_grouped q.repr) (sym same) ∙ h)) (shared_list_unique value_own new) made);
     }

@@ -8,7 +8,7 @@ returns-in_default g c =
     let b = c.args.chunk.now in
     let e = c.clone_shared.ensures in
     record {
-      equal = e.same;
+      equal = e.equal;
       shared = e.shared;
       was = found_of {P = λ x. is_chunk_shared x ≡ true} c.clone_shared.result (is_chunk_shared b) (λ x was now. was) e.found e.shared;
       other = some_of {P = λ x. is_chunk_shared x ≡ true} c.clone_shared.result (λ x now. c.in_default.not-Unique) e.shared;

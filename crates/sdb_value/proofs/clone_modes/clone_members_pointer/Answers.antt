@@ -8,7 +8,7 @@ returns-in_default c =
     let m = c.args.members.now in
     let e = c.clone_shared.ensures in
     record {
-      members = some_of c.clone_shared.result (members_again m) e.same;
+      members = some_of c.clone_shared.result (members_again m) e.equal;
       unique = found_of {P = λ x. is_shared_map x ≡ true} c.clone_shared.result (is_shared_map m)
           (λ x was now. list_pointed value_own c.args.mode (map_chunks m) (map_chunks x) c.in_default.not-Unique was now) e.found e.shared;
       none = none_of c.clone_shared.result (is_shared_map m) e.found (λ h _. h);

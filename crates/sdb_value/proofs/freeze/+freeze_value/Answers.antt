@@ -162,14 +162,14 @@ pub freeze_each_member_chunk-returns-in_err-freeze_member_chunk : goal.freeze_ea
 freeze_each_member_chunk-returns-in_err-freeze_member_chunk t c =
     let bs = c.loop-at.chunks.items in
     let inside : c.loop-at.at < length bs = omega (arith, c.loop-at-test.true, c.len-at-end.ensures, c.loop-at.invariant.count) in
-    same_member_part items_of bs c.loop-at.at c.index_mut.result.now c.freeze_member_chunk.new.chunk inside c.index_mut.ensures.value c.freeze_member_chunk.ensures.members ∙ c.loop-at.invariant.same
+    same_member_part items_of bs c.loop-at.at c.index_mut.result.now c.freeze_member_chunk.new.chunk inside c.index_mut.ensures.value c.freeze_member_chunk.ensures.members_unchanged ∙ c.loop-at.invariant.same
 
 pub freeze_each_member_chunk-loop-at-preserved : goal.freeze_each_member_chunk-loop-at-preserved
 freeze_each_member_chunk-loop-at-preserved t c =
     let bs = c.loop-at.chunks.items in
     let inside : c.loop-at.at < length bs = omega (arith, c.loop-at-test.true, c.len-at-end.ensures, c.loop-at.invariant.count) in
     record {
-      same = same_member_part items_of bs c.loop-at.at c.index_mut.result.now c.freeze_member_chunk.new.chunk inside c.index_mut.ensures.value c.freeze_member_chunk.ensures.members ∙ c.loop-at.invariant.same;
+      same = same_member_part items_of bs c.loop-at.at c.index_mut.result.now c.freeze_member_chunk.new.chunk inside c.index_mut.ensures.value c.freeze_member_chunk.ensures.members_unchanged ∙ c.loop-at.invariant.same;
       count = length-set bs c.loop-at.at c.freeze_member_chunk.new.chunk ∙ c.loop-at.invariant.count;
     }
 
@@ -203,16 +203,16 @@ freeze_each_value-loop-at-preserved t c =
 pub freeze_members-from_entries-requires-clause-bound : goal.freeze_members-from_entries-requires-clause-bound
 freeze_members-from_entries-requires-clause-bound t c =
     small_viewed c.into_chunks.result c.from_repr.result
-    (ap member_repr_value c.from_repr.ensures ∙ c.freeze_member_repr-done.ensures.members ∙ ap member_repr_value c.into_repr-repr.ensures) c.into_chunks.ensures.bound
+    (ap member_repr_value c.from_repr.ensures ∙ c.freeze_member_repr-done.ensures.members_unchanged ∙ ap member_repr_value c.into_repr-repr.ensures) c.into_chunks.ensures.bound
 
 pub freeze_members-from_entries-requires-clause-ascending : goal.freeze_members-from_entries-requires-clause-ascending
 freeze_members-from_entries-requires-clause-ascending t c =
     ascending_viewed c.into_chunks.result c.from_repr.result
-    (ap member_repr_value c.from_repr.ensures ∙ c.freeze_member_repr-done.ensures.members ∙ ap member_repr_value c.into_repr-repr.ensures) c.into_chunks.ensures.ascending
+    (ap member_repr_value c.from_repr.ensures ∙ c.freeze_member_repr-done.ensures.members_unchanged ∙ ap member_repr_value c.into_repr-repr.ensures) c.into_chunks.ensures.ascending
 
 pub freeze_members-returns-clause-members_unchanged : goal.freeze_members-returns-clause-members_unchanged
 freeze_members-returns-clause-members_unchanged t c =
-    ap (λ (q : ChunkedVec (MapEntry Json)). entries_value (vec_items q)) c.from_entries.ensures ∙ ap member_repr_value c.from_repr.ensures ∙ c.freeze_member_repr-done.ensures.members
+    ap (λ (q : ChunkedVec (MapEntry Json)). entries_value (vec_items q)) c.from_entries.ensures ∙ ap member_repr_value c.from_repr.ensures ∙ c.freeze_member_repr-done.ensures.members_unchanged
     ∙ ap member_repr_value c.into_repr-repr.ensures ∙ ap (λ (q : ChunkedVec (MapEntry Json)). entries_value (vec_items q)) (c.into_chunks.ensures.equal ∙ ap map_chunks c.replace.ensures.value)
 
 pub freeze_members-returns-clause-shared : goal.freeze_members-returns-clause-shared

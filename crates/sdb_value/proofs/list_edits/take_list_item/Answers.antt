@@ -19,5 +19,5 @@ pub returns-clause-unique : goal.returns-clause-unique
 returns-clause-unique c own =
     own_result c.replace.result c.args.items.now c.replace.new.self c.args.index json.Null c.replace.ensures.ok c.replace.ensures.err c.replace.ensures.unique own unique_null
 
-pub returns-clause-item_own : goal.returns-clause-item_own
-returns-clause-item_own c = taken_unique c.replace.result c.args.items.now c.args.index c.replace.ensures.item
+pub returns-clause-item_unique : goal.returns-clause-item_unique
+returns-clause-item_unique c = taken_unique c.replace.result c.args.items.now c.args.index c.replace.ensures.item

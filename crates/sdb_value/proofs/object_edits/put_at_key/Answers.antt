@@ -6,9 +6,9 @@ use Rattle.sdb_value.proofs.object_edits.put_at_key.Goals as goal
 pub returns-in_err-insert-clause-err : goal.returns-in_err-insert-clause-err
 returns-in_err-insert-clause-err c = on_any_err c.from_residual.result (object_unchanged c.args.members.now c.insert.new.self c.in_err-insert.ensures.err)
 
-pub returns-in_err-insert-clause-absent : goal.returns-in_err-insert-clause-absent
-returns-in_err-insert-clause-absent c own =
-    on_any_err c.from_residual.result (object_absent c.args.members.now (string_bytes c.args.key) (c.in_err-insert.ensures.absent own))
+pub returns-in_err-insert-clause-absent_on_err : goal.returns-in_err-insert-clause-absent_on_err
+returns-in_err-insert-clause-absent_on_err c own =
+    on_any_err c.from_residual.result (object_absent c.args.members.now (string_bytes c.args.key) (c.in_err-insert.ensures.absent_on_err own))
 
 pub returns-in_err-insert-clause-unique : goal.returns-in_err-insert-clause-unique
 returns-in_err-insert-clause-unique c own new =

@@ -32,5 +32,5 @@ pub returns-clause-unique : goal.returns-clause-unique
 returns-clause-unique c own =
     unique_replaced c.replace.result c.args.entries.now c.replace.new.self c.args.index (record { key = c.new-2.result; value = json.Null }) c.replace.ensures.ok c.replace.ensures.err c.replace.ensures.unique own unique_null
 
-pub returns-clause-value_own : goal.returns-clause-value_own
-returns-clause-value_own c = unique_taken c.replace.result c.args.entries.now c.args.index c.replace.ensures.item
+pub returns-clause-value_unique : goal.returns-clause-value_unique
+returns-clause-value_unique c = unique_taken c.replace.result c.args.entries.now c.args.index c.replace.ensures.item

@@ -11,8 +11,8 @@ invariant_of-self c = with_used _ _ c.self.inside.cache _ c.args.version c.clone
 pub invariant_of-self-2 : goal.invariant_of-self-2
 invariant_of-self-2 c = with_used _ _ c.self.inside.cache _ c.args.version c.clone_nearest.ensures.cache c.self.invariant
 
-pub returns-clause-up_to : goal.returns-clause-up_to
-returns-clause-up_to c = begins_up_to c.args.version c.replay_start.result.0 _ c.self.inside.cache _ (sym c.in_ok-found.ensures.found) c.replay_start.ensures
+pub returns-clause-bound : goal.returns-clause-bound
+returns-clause-bound c = begins_up_to c.args.version c.replay_start.result.0 _ c.self.inside.cache _ (sym c.in_ok-found.ensures.found) c.replay_start.ensures
 
 pub returns-clause-snap : goal.returns-clause-snap
 returns-clause-snap c =

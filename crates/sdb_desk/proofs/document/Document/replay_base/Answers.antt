@@ -13,5 +13,5 @@ returns-clause-replay_base c =
     let lives : is_some (snap log) ≡ true = ap (λ d. is_some (snap d.log)) (sym c.self.view_is) ∙ c.len.ensures.alive in
     let behind : c.entries_from.result.now ≡ drop w log =
     c.entries_from.ensures ∙ ap (λ d. drop w d.log) c.self-2.view_is ∙ ap (drop w) c.nearest.ensures.log in
-    replays_from log v w (option_map value_of c.in_ok-from.snapshot) c.in_ok-entries.entries.items lives c.requires c.in_ok-from.ensures.up_to
+    replays_from log v w (option_map value_of c.in_ok-from.snapshot) c.in_ok-entries.entries.items lives c.requires c.in_ok-from.ensures.bound
     c.in_ok-from.ensures.snap (c.in_ok-entries.ensures.copies ∙ ap (take (v - w)) behind)

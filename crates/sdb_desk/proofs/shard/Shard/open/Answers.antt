@@ -169,8 +169,8 @@ returns-in-Some-clause-rings c =
     let wrote = updated_of_write empty_slot es _ c.args.key.now old new c.in-Some.ensures.value (c.get_mut.follows.holds new).0 in
     if_ok c.open.result (λ id e. rings_written f g k old new found wrote ∙ ap (with_value_at_key (ringed_queues_of c.args.self.now) k) (e ∙ ap (λ t. append_ringed_queue id c.args.by c.args.start t.queues.queues) found)) c.open.ensures.rings
 
-pub returns-in-Some-clause-rings_left : goal.returns-in-Some-clause-rings_left
-returns-in-Some-clause-rings_left c =
+pub returns-in-Some-clause-rings_unchanged_on_err : goal.returns-in-Some-clause-rings_unchanged_on_err
+returns-in-Some-clause-rings_unchanged_on_err c =
     let es = c.args.self.now.slots.entries in
     let old = c.in-Some.slot.now in
     let new = c.open.new.self in
@@ -181,8 +181,8 @@ returns-in-Some-clause-rings_left c =
     let wrote = updated_of_write empty_slot es _ c.args.key.now old new c.in-Some.ensures.value (c.get_mut.follows.holds new).0 in
     on_err c.open.result (λ e. rings_unchanged f g k old new found wrote (ap (λ t. t.queues) e)) c.open.ensures.unchanged_on_err
 
-pub returns-in_err-insert_slot-clause-rings_left : goal.returns-in_err-insert_slot-clause-rings_left
-returns-in_err-insert_slot-clause-rings_left c =
+pub returns-in_err-insert_slot-clause-rings_unchanged_on_err : goal.returns-in_err-insert_slot-clause-rings_unchanged_on_err
+returns-in_err-insert_slot-clause-rings_unchanged_on_err c =
     let f = slots_of c.args.self.now in
     let g = slots_of c.insert_slot.new.self in
     let base = ap (λ m. value_at_key empty_slot m.entries) c.get_mut.follows.holds-at-none in

@@ -60,8 +60,8 @@ returns-in-Some-clause-rings c =
     let wrote = updated_of_write empty_slot es _ c.args.key.now old new c.in-Some.ensures.value (c.get_mut.follows.holds new).0 in
     on_ok c.take.result (λ e. rings_written f g k old new found wrote ∙ ap (with_value_at_key (ringed_queues_of c.args.self.now) k) (e ∙ ap (λ t. ringed_queues_after_take_by t.document.log c.args.by c.args.id c.args.max t.queues.queues) found)) c.take.ensures.rings
 
-pub returns-in-Some-clause-rings_left : goal.returns-in-Some-clause-rings_left
-returns-in-Some-clause-rings_left c =
+pub returns-in-Some-clause-rings_unchanged_on_err : goal.returns-in-Some-clause-rings_unchanged_on_err
+returns-in-Some-clause-rings_unchanged_on_err c =
     let es = c.args.self.now.slots.entries in
     let old = c.in-Some.slot.now in
     let new = c.take.new.self in

@@ -13,7 +13,7 @@ returns-clause-accepted c = λ xs h.
     let es = c.match-take.self.logs.entries in
     let kept : (((q : PlainKey) → logs_of_map es q ≡ log_of_lines xs q) × AreNotEmpty es) × (c.match-take.self.entries ≡ old.entries) = elim c.match-take.branch [
       | in-Some+in_ok-keep_log w ↦ (
-        accepted_some old es w.in-Some.last xs (sym c.take.ensures.value ∙ w.in-Some.is) (ap (λ x. x.logs.entries) w.self-is ∙ w.in_ok-keep_log.ensures.kept) h,
+        accepted_some old es w.in-Some.last xs (sym c.take.ensures.value ∙ w.in-Some.is) (ap (λ x. x.logs.entries) w.self-is ∙ w.in_ok-keep_log.ensures.logs) h,
         ap (λ x. x.entries) w.self-is ∙ w.in_ok-keep_log.ensures.entries,
       )
       | in_default w ↦ (

@@ -5,27 +5,27 @@ use Rattle.sdb_dump.specs.declared.checker.Checker.{Checker}
 use Rattle.sdb_dump.proofs.EnterLemmas.{takes_first, takes_below, takes_same, takes_above}
 use Rattle.sdb_dump.proofs.checker.Checker.take_decided_log.Goals as goal
 
-pub returns-in_default-clause-takes : goal.returns-in_default-clause-takes
-returns-in_default-clause-takes c = λ xs h.
+pub returns-in_default-clause-taken_log : goal.returns-in_default-clause-taken_log
+returns-in_default-clause-taken_log c = λ xs h.
     let old = c.args.self.now in
     let k = plain_key c.args.key.now in
     let mid : Checker = record { alloc = old.alloc; stage = old.stage; logs = old.logs; last = c.take.new.self; entries = old.entries } in
     subst (λ d. CheckerContinues xs k d mid) (sym c.new.ensures) (takes_first old mid xs k (sym c.take.ensures.value ∙ c.in_default.is) refl h)
 
-pub returns-in-Less-clause-takes : goal.returns-in-Less-clause-takes
-returns-in-Less-clause-takes c = λ xs h.
+pub returns-in-Less-clause-taken_log : goal.returns-in-Less-clause-taken_log
+returns-in-Less-clause-taken_log c = λ xs h.
     let old = c.args.self.now in
     takes_below old old c.in-Some.last xs (plain_key c.args.key.now) (sym c.take.ensures.value ∙ c.in-Some.is) h (sym c.cmp.ensures ∙ c.in-Less.is)
 
-pub returns-in-Equal-clause-takes : goal.returns-in-Equal-clause-takes
-returns-in-Equal-clause-takes c = λ xs h.
+pub returns-in-Equal-clause-taken_log : goal.returns-in-Equal-clause-taken_log
+returns-in-Equal-clause-taken_log c = λ xs h.
     let old = c.args.self.now in
     let mid : Checker = record { alloc = old.alloc; stage = old.stage; logs = old.logs; last = c.take.new.self; entries = old.entries } in
     takes_same old mid c.in-Some.last xs (plain_key c.args.key.now) (sym c.take.ensures.value ∙ c.in-Some.is) h (sym c.cmp.ensures ∙ c.in-Equal.is) refl
 
-pub returns-in_ok-keep_log-in-Greater-clause-takes : goal.returns-in_ok-keep_log-in-Greater-clause-takes
-returns-in_ok-keep_log-in-Greater-clause-takes c = λ xs h.
+pub returns-in_ok-keep_log-in-Greater-clause-taken_log : goal.returns-in_ok-keep_log-in-Greater-clause-taken_log
+returns-in_ok-keep_log-in-Greater-clause-taken_log c = λ xs h.
     let old = c.args.self.now in
     let k = plain_key c.args.key.now in
     subst (λ d. CheckerContinues xs k d c.keep_log.new.self) (sym c.new-in-Greater.ensures)
-    (takes_above old c.keep_log.new.self c.in-Some.last xs k (sym c.take.ensures.value ∙ c.in-Some.is) h (sym c.cmp.ensures ∙ c.in-Greater.is) c.in_ok-keep_log-in-Greater.ensures.kept)
+    (takes_above old c.keep_log.new.self c.in-Some.last xs k (sym c.take.ensures.value ∙ c.in-Some.is) h (sym c.cmp.ensures ∙ c.in-Greater.is) c.in_ok-keep_log-in-Greater.ensures.logs)

@@ -23,8 +23,8 @@ returns-clause-seen g c = let r = g.T.Grows in let p = c.in-Some.ensures in
     subst (λ (v : g.row.T.Denot). ForEach (λ (s : Seat g.row.T.Denot). (x : g.row.T.Denot) → HasObserved s.inner.me.0 s.number x → r.extends v x × r.same s.number x v) c.args.seats.items)
     (value_unique t.0 c.in-Some-slot.value c.take-slot.result t.1 c.in-Some-slot.is) t.2
 
-pub returns-clause-clear : goal.returns-clause-clear
-returns-clause-clear g c = let r = g.T.Grows in let p = c.in-Some.ensures in
+pub returns-clause-blank : goal.returns-clause-blank
+returns-clause-blank g c = let r = g.T.Grows in let p = c.in-Some.ensures in
     let all = c.join_all_table_seats.ensures.all ∙ ap (λ (q : Place g.row.T.Denot). let z : M g.row.T.Denot = (join_all_views q.me.0 (map seat_view c.pop.new.self.items), q.me.1) in z) c.into_table_seat-table_seat.ensures in
     let t = close_returns_value r.extends r.same r.blank c.args.seats.items c.pop.new.self.items c.in-Some.last c.join_all_table_seats.new.table_seat.me _ _ _ _ p.items c.requires.first c.requires.all all c.close_with-closed.ensures.values.2 c.take-slot.ensures.value in
     subst (λ (v : g.row.T.Denot). (k : ℕ) → sum_of (map (λ (s : Seat g.row.T.Denot). s.next) c.args.seats.items) ≤ k → r.blank k v)

@@ -2,7 +2,7 @@ use Rattle.sdb_oplog.specs.Keys.{plain_key}
 use Rattle.sdb_desk.specs.ReplyView.{plain_reply}
 use Rattle.sdb_desk.specs.ShardView.{logs_of}
 use Rattle.sdb_service_tests.proofs.Looks.{decided_stays}
-use Rattle.sdb_service_tests.proofs.desk.Board.commit_now.Goals as goal
+use Rattle.sdb_service_tests.proofs.desk.TestDocument.commit_now.Goals as goal
 
 pub returns : goal.returns
 returns c =

@@ -2,7 +2,7 @@ use Rattle.sdb_oplog.specs.Keys.{plain_key}
 use Rattle.sdb_desk.specs.ReplyView.{plain_reply}
 use Rattle.sdb_desk.specs.ShardView.{logs_of}
 use Rattle.sdb_service_tests.proofs.Looks.{decided_stays}
-use Rattle.sdb_service_tests.proofs.submit.Shared.meddle.Goals as goal
+use Rattle.sdb_service_tests.proofs.submit.ContendedShard.store_other.Goals as goal
 
 pub returns-in-Some : goal.returns-in-Some
 returns-in-Some c =

@@ -1,5 +1,5 @@
 use Rattle.sdb_desk.specs.ShardView.{logs_of, queues_of}
-use Rattle.sdb_service_tests.proofs.submit.MeddlingDesk.take.Goals as goal
+use Rattle.sdb_service_tests.proofs.submit.ContendedStoreDesk.take.Goals as goal
 
 pub returns-clause-step : goal.returns-clause-step
 returns-clause-step c =

@@ -15,7 +15,7 @@ returns-in-Ok-clause-joins g c =
     let P : Option QueueId → Type 0 = λ o. CloseCalls (g.D.Desk.step c.args.desk.now) o c.take_first_entries.new.pass c.close_queue.new.pass in
     let old = queue_of_copy c.get.result ∙ ap (option_map queue_id_of) c.get.ensures.value ∙ queue_entry es c.args.target.now.key.now ∙ ap (λ (s : PlainSession). queue_of k s.subs) c.in-Ok.ensures.session in
     let begun = c.in-Ok.ensures.begins in
-    (begun.0, ((c.subscribe.new.pass, (c.take_first_entries.new.pass, (c.in_ok-opened.ensures.step, begun.1.0, subst P old c.close_queue.ensures.closes))), begun.1.1, begun.1.2))
+    (begun.0, ((c.subscribe.new.pass, (c.take_first_entries.new.pass, (c.in_ok-opened.ensures.step, begun.1.0, subst P old c.close_queue.ensures.close_calls))), begun.1.1, begun.1.2))
 
 pub returns-in-Err-clause-joins : goal.returns-in-Err-clause-joins
 returns-in-Err-clause-joins g c =

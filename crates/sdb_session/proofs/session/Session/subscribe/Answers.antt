@@ -30,7 +30,7 @@ returns-then-is_subscription_full-clause-outcome g c = λ now.
     let seen : o ≡ projection_of_key t k = c.find-projection.ensures ∙ ap (λ n. projection_of n t) c.as_str.ensures.value in
     handled_by _ (g.D.Desk.step c.args.desk.now) e t by now s (subscribe k v) c.args.pass.now c.write_refusal.result wrote s c.limit_code-code.new.pass
     (full_handles (g.D.Desk.step c.args.desk.now) e t by now s c.args.pass.now c.limit_code-code.new.pass (OutputUnlessFailed c.write_refusal.result wrote) k o seen
-    v b code (sym c.is_subscription_full.ensures ∙ c.if-is_subscription_full.true) c.in_ok-base.ensures c.limit_code-code.ensures.refuses (on_output c.write_refusal.result wrote (failed e code ∷ []) c.write_refusal.ensures))
+    v b code (sym c.is_subscription_full.ensures ∙ c.if-is_subscription_full.true) c.in_ok-base.ensures c.limit_code-code.ensures.refuse_calls (on_output c.write_refusal.result wrote (failed e code ∷ []) c.write_refusal.ensures))
 
 pub returns-in-Err-Refused-clause-outcome : goal.returns-in-Err-Refused-clause-outcome
 returns-in-Err-Refused-clause-outcome g c = λ now.

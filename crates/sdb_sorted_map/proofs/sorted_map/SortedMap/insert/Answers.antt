@@ -39,8 +39,8 @@ pub unreachable-requires : goal.unreachable-requires
 unreachable-requires g c =
     none_found g.V.TryClone.model c.args.self.now.entries c.as_str.result.now c.in-Ok.index c.in_ok-old-in-Ok.field-0 c.in-Ok.ensures.key_index c.in_ok-old-in-Ok.ensures.item c.in-None.is
 
-pub returns-in_err-old-in-Ok-clause-absent : goal.returns-in_err-old-in-Ok-clause-absent
-returns-in_err-old-in-Ok-clause-absent g c own =
+pub returns-in_err-old-in-Ok-clause-absent_on_err : goal.returns-in_err-old-in-Ok-clause-absent_on_err
+returns-in_err-old-in-Ok-clause-absent_on_err g c own =
     let l = c.args.self.now.entries in
     on_err c.from_residual.result (absurd (not_both (is_unique_vec_at l c.in-Ok.index) (unique_vec_at_of_all l c.in-Ok.index own) c.in_err-old-in-Ok.ensures.shared_on_err))
 
@@ -73,15 +73,15 @@ returns-in_ok-insert-in-Err-clause-value g c =
     let at = subst (λ t. IsInsertIndex (vec_keys l) t i) c.as_str.ensures.value c.in-Err.ensures.insert_index in
     sym (lookup_none_of_insert_index (string_bytes c.args.key) (map_entry_models g.V.TryClone.model c.args.self.now) i (gap_seen g.V.TryClone.model l l (string_bytes c.args.key) i at))
 
-pub returns-then-len-eq18446744073709551615-clause-absent : goal.returns-then-len-eq18446744073709551615-clause-absent
-returns-then-len-eq18446744073709551615-clause-absent g c own =
+pub returns-then-len-eq18446744073709551615-clause-absent_on_err : goal.returns-then-len-eq18446744073709551615-clause-absent_on_err
+returns-then-len-eq18446744073709551615-clause-absent_on_err g c own =
     let l = c.args.self.now.entries in
     let i = c.in-Err.index in
     let at = subst (λ t. IsInsertIndex (vec_keys l) t i) c.as_str.ensures.value c.in-Err.ensures.insert_index in
     lookup_none_of_insert_index (string_bytes c.args.key) (map_entry_models g.V.TryClone.model c.args.self.now) i (gap_seen g.V.TryClone.model l l (string_bytes c.args.key) i at)
 
-pub returns-in_err-insert-in-Err-clause-absent : goal.returns-in_err-insert-in-Err-clause-absent
-returns-in_err-insert-in-Err-clause-absent g c own =
+pub returns-in_err-insert-in-Err-clause-absent_on_err : goal.returns-in_err-insert-in-Err-clause-absent_on_err
+returns-in_err-insert-in-Err-clause-absent_on_err g c own =
     let l = c.args.self.now.entries in
     let i = c.in-Err.index in
     let at = subst (λ t. IsInsertIndex (vec_keys l) t i) c.as_str.ensures.value c.in-Err.ensures.insert_index in

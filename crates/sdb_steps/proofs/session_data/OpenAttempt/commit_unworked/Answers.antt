@@ -7,6 +7,6 @@ pub returns-then-version-look_version-clause-commits : goal.returns-then-version
 returns-then-version-look_version-clause-commits c =
     unworked_out_of_memory c.args.shard.now (plain_open_attempt c.args.self) (plain_open_attempt c.args.self) c.args.now c.requires.bound (λ e. c.if-version-look_version.true (c.version.ensures ∙ e ∙ sym c.look_version.ensures)) refl
 
-pub commit_now-requires-clause-due : goal.commit_now-requires-clause-due
-commit_now-requires-clause-due c =
+pub commit_now-requires-clause-is_deciding : goal.commit_now-requires-clause-is_deciding
+commit_now-requires-clause-is_deciding c =
     same_decides c.args.shard.now (plain_open_attempt c.args.self) (sym c.version.ensures ∙ c.if-version-look_version.false ∙ c.look_version.ensures)

@@ -13,7 +13,7 @@ close_stripes-requires-clause-belongs g c =
     let cs = c.args.callers.items in
     let s = element_at c.args.first.seats.items 8 c.args.first.has_every_stripe (omega arith) in
     let l = slice_index_or c.args.self.locks.items i x in
-    subst (λ (ss : List (Seat g.row.T.Denot)). ForEach (λ t. BelongsTo t l) ss) (sym (c.gather_stripes.ensures.each i y s lt))
+    subst (λ (ss : List (Seat g.row.T.Denot)). ForEach (λ t. BelongsTo t l) ss) (sym (c.gather_stripes.ensures.columns i y s lt))
     ((c.requires.first.1 i s x from lt).0, belongs_all i s l cs (for_each_at_index c.args.self cs i s x lt c.requires.callers))
 
 pub close_stripes-requires-clause-all : goal.close_stripes-requires-clause-all
@@ -24,7 +24,7 @@ close_stripes-requires-clause-all g c =
     let s = element_at first 8 c.args.first.has_every_stripe (omega arith) in
     let x = element_at c.args.self.locks.items 8 c.args.self.has_every_stripe (omega arith) in
     let l = slice_index_or c.args.self.locks.items i x in
-    subst (λ (ss : List (Seat g.row.T.Denot)). HasEverySeat ss) (sym (c.gather_stripes.ensures.each i y s lt))
+    subst (λ (ss : List (Seat g.row.T.Denot)). HasEverySeat ss) (sym (c.gather_stripes.ensures.columns i y s lt))
     (every_seat_present i s l c.args.first.next (slice_index_or first i s) cs c.requires.first.0 (c.requires.first.1 i s x (omega arith) lt) (for_each_at_index c.args.self cs i s x lt c.requires.callers) c.requires.all)
 
 pub returns-clause-closed : goal.returns-clause-closed
@@ -39,4 +39,4 @@ returns-clause-closed g c =
     let y = element_at c.gather_stripes.new.columns.items 8 c.gather_stripes.ensures.length (omega arith) in
     let value = slice_index_or c.close_stripes.result.items i v in
     close_relation r.extends r.same r.blank l i s c.args.first cs value (c.requires.first.1 i s x (omega arith) lt) (for_each_at_index c.args.self cs i s x lt c.requires.callers)
-    (subst (λ (ss : List (Seat g.row.T.Denot)). IsValueAfterClose r.extends r.same r.blank ss value) (c.gather_stripes.ensures.each i y s lt) (c.close_stripes.ensures.gives i y v (omega arith) lt))
+    (subst (λ (ss : List (Seat g.row.T.Denot)). IsValueAfterClose r.extends r.same r.blank ss value) (c.gather_stripes.ensures.columns i y s lt) (c.close_stripes.ensures.values i y v (omega arith) lt))

@@ -12,16 +12,16 @@ invariant_of-self c =
     let noted : ArePushed e es ns = noted_pairs _ e _ (λ k v b w g t. search rules) es ns c.retain.ensures.filtered in
     subst (AreBelowNext c.self.inside.next) (sym (noted_keys e es ns noted)) c.self.invariant
 
-pub returns-clause-noted : goal.returns-clause-noted
-returns-clause-noted c =
+pub returns-clause-pushed : goal.returns-clause-pushed
+returns-clause-pushed c =
     let e = c.args.entry.now in
     let es = c.self.inside.queues.entries in
     let ns = c.retain.new.self.entries in
     let noted : ArePushed e es ns = noted_pairs _ e _ (λ k v b w g t. search rules) es ns c.retain.ensures.filtered in
     subst (λ q. ArePushed e q.queues ns) c.self.view_is noted
 
-pub returns-clause-bare : goal.returns-clause-bare
-returns-clause-bare c =
+pub returns-clause-queues_unchanged : goal.returns-clause-queues_unchanged
+returns-clause-queues_unchanged c =
     let e = c.args.entry.now in
     let es = c.self.inside.queues.entries in
     let ns = c.retain.new.self.entries in

@@ -30,8 +30,8 @@ loop-left-preserved c =
       falls = omega (arith, less, c.loop-left.invariant.falls);
     }
 
-pub returns-in-Many-clause-keeps : goal.returns-in-Many-clause-keeps
-returns-in-Many-clause-keeps c =
+pub returns-in-Many-clause-invariant_preserved : goal.returns-in-Many-clause-invariant_preserved
+returns-in-Many-clause-invariant_preserved c =
     let self = c.loop-left.self in
     let both = c.in_ok-pieces in
     let ls = transformed_components both.pieces in
@@ -42,8 +42,8 @@ returns-in-Many-clause-keeps c =
     let work : S' ≡ right_frames rs ++ (LeftChanges ls ∷ S) = rw c.in-Many.is (e ∙ ap (λ s. right_frames c.in-Many.run'.items ++ s) c.in_ok-push_left.ensures.ok) in
     meet_preserves goal c.loop-left.right (from_top self.left.items) (from_top c.pop_left.new.waiting.items) S S' self.right_done.items self.pairs c.in-Some.left _ ls rs c.in-Some.ensures both.ensures.left both.ensures.right c.saturating_add-self.ensures work (c.loop-left.invariant.keeps goal h))
 
-pub returns-in-Many-clause-falls : goal.returns-in-Many-clause-falls
-returns-in-Many-clause-falls c =
+pub returns-in-Many-clause-bound_decreases : goal.returns-in-Many-clause-bound_decreases
+returns-in-Many-clause-bound_decreases c =
     let self = c.loop-left.self in
     let both = c.in_ok-pieces in
     let ls = transformed_components both.pieces in
@@ -55,8 +55,8 @@ returns-in-Many-clause-falls c =
     let less = meet_falls c.in-Some.left c.loop-left.right (from_top self.left.items) (from_top c.pop_left.new.waiting.items) S S' ls rs c.in-Some.ensures both.ensures.left both.ensures.right work in
     omega (arith, less, c.loop-left.invariant.falls))
 
-pub returns-clause-keeps : goal.returns-clause-keeps
-returns-clause-keeps c =
+pub returns-clause-invariant_preserved : goal.returns-clause-invariant_preserved
+returns-clause-invariant_preserved c =
     let self = c.loop-left.self in
     let S = work_from_top self.right.items in
     λ goal h. none_preserves goal c.loop-left.right (from_top self.left.items) (from_top c.pop_left.new.waiting.items) S S self.right_done.items self.pairs _ c.in_default.ensures.0 c.in_default.ensures.1 c.in_ok-push.ensures.items (c.loop-left.invariant.keeps goal h)
