@@ -118,11 +118,11 @@ impl Change for ApplyMany<'_> {
 
     fn change(self, target: &mut Json) -> Result<(), ApplyFault> {
         target.freeze(self.alloc)?;
-        let kept = target.frozen_clone(self.alloc)?;
+        let backup = target.frozen_clone(self.alloc)?;
         match apply_at_depth(self.alloc, target, self.components, self.depth) {
             Ok(()) => Ok(()),
             Err(fault) => {
-                *target = kept;
+                *target = backup;
                 Err(fault)
             }
         }

@@ -159,12 +159,12 @@ impl<R: Wait + Drop> Backend<R> {
         ensures answered { AnsweredAtExtension (plain_key key.now) (snapshot (Some version)) pass.old
             (fetch_result_view result) pass.new }
     {
-        let lent = self.run(pass, key, ReplayBaseJob { key, version })?;
-        if lent.entries.is_empty() {
-            let ReplayBase { snapshot, .. } = lent;
+        let replay_start = self.run(pass, key, ReplayBaseJob { key, version })?;
+        if replay_start.entries.is_empty() {
+            let ReplayBase { snapshot, .. } = replay_start;
             return Ok(FetchResult { version, snapshot });
         }
-        let snapshot = lent.replay(self.alloc)?;
+        let snapshot = replay_start.replay(self.alloc)?;
         let offer = OfferJob {
             key,
             version,
@@ -190,13 +190,13 @@ impl<R: Wait + Drop> Backend<R> {
     {
         let ReplayBaseAt {
             version,
-            base: lent,
+            base: replay_start,
         } = self.run(pass, key, ReplayBaseAtMomentJob { key, moment })?;
-        if lent.entries.is_empty() {
-            let ReplayBase { snapshot, .. } = lent;
+        if replay_start.entries.is_empty() {
+            let ReplayBase { snapshot, .. } = replay_start;
             return Ok(FetchResult { version, snapshot });
         }
-        let snapshot = lent.replay(self.alloc)?;
+        let snapshot = replay_start.replay(self.alloc)?;
         let offer = OfferJob {
             key,
             version,

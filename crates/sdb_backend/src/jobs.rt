@@ -204,10 +204,10 @@ impl<'a> Job<Held> for ReplayBaseAtMomentJob<'a> {
     fn run(self, _number: u64, held: &mut Held) -> Result<ReplayBaseAt, Code> {
         let Self { key, moment } = self;
         let version = held.shard.version_at(key, Some(moment));
-        let lent = held.shard.replay_base(key, version)?;
+        let replay_start = held.shard.replay_base(key, version)?;
         Ok(ReplayBaseAt {
             version,
-            base: lent,
+            base: replay_start,
         })
     }
 }

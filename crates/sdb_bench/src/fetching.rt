@@ -16,8 +16,8 @@ pub(crate) fn measure(rt: &HostRuntime) -> anyhow::Result<()> {
     let mut shard = Shard::new(alloc);
     let (value, ops) = read(rt)?;
     commit(alloc, &mut shard, &key, 1, Content::create(alloc, value)?)?;
-    fetches(rt, &mut shard, &key)?;
-    edits(rt, &mut shard, &key, ops)
+    measure_fetches(rt, &mut shard, &key)?;
+    measure_edits(rt, &mut shard, &key, ops)
 }
 
 fn commit(
@@ -33,7 +33,7 @@ fn commit(
     Ok(())
 }
 
-fn fetches(rt: &HostRuntime, shard: &mut Shard, key: &Key) -> anyhow::Result<()> {
+fn measure_fetches(rt: &HostRuntime, shard: &mut Shard, key: &Key) -> anyhow::Result<()> {
     let start = Instant::now(rt)?;
     for _ in 0..FETCHES {
         drop(shard.fetch(key));
@@ -42,7 +42,12 @@ fn fetches(rt: &HostRuntime, shard: &mut Shard, key: &Key) -> anyhow::Result<()>
     Ok(())
 }
 
-fn edits(rt: &HostRuntime, shard: &mut Shard, key: &Key, ops: Vec<Op>) -> anyhow::Result<()> {
+fn measure_edits(
+    rt: &HostRuntime,
+    shard: &mut Shard,
+    key: &Key,
+    ops: Vec<Op>,
+) -> anyhow::Result<()> {
     let alloc = rt.alloc();
     let count = ops.len() as u64;
     let start = Instant::now(rt)?;

@@ -4,7 +4,7 @@ use std::io;
 use std::io::{BufRead, BufReader, BufWriter, Write};
 
 /// Parses each line and prints nothing.
-pub(crate) fn read(rt: &HostRuntime) -> anyhow::Result<()> {
+pub(crate) fn parse(rt: &HostRuntime) -> anyhow::Result<()> {
     let alloc = rt.alloc();
     for line in BufReader::new(alloc, rt.reader())?.lines(alloc) {
         drop(Value::from_str(alloc, line?.as_str())?);
@@ -13,7 +13,7 @@ pub(crate) fn read(rt: &HostRuntime) -> anyhow::Result<()> {
 }
 
 /// Parses and prints each line.
-pub(crate) fn pass(rt: &HostRuntime) -> anyhow::Result<()> {
+pub(crate) fn parse_and_print(rt: &HostRuntime) -> anyhow::Result<()> {
     let alloc = rt.alloc();
     let mut writer = BufWriter::new(alloc, io::writer(rt))?;
     for line in BufReader::new(alloc, rt.reader())?.lines(alloc) {

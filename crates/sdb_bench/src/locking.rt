@@ -57,12 +57,12 @@ fn grow_lock<R: Wait>(rt: &HostRuntime, waiting: &R) -> anyhow::Result<()> {
     for _ in 0..TURNS {
         last = lock.with(waiting, &mut seat, CountTurn);
     }
-    let name = format!(in rt.alloc(); "a GrowLock taken and freed, {last} turns")?;
+    let name = format!(in rt.alloc(); "a GrowLock acquired and released, {last} turns")?;
     report(rt, name.as_str(), start, TURNS)?;
     Ok(())
 }
 
-fn mutex<R: Wait>(rt: &HostRuntime, waiting: &R) -> anyhow::Result<()> {
+fn measure_mutex<R: Wait>(rt: &HostRuntime, waiting: &R) -> anyhow::Result<()> {
     let lock = Mutex::new(Count { turns: 0 });
     let start = Instant::now(rt)?;
     let mut last = 0;
@@ -71,12 +71,12 @@ fn mutex<R: Wait>(rt: &HostRuntime, waiting: &R) -> anyhow::Result<()> {
         count.turns = count.turns.wrapping_add(1);
         last = count.turns;
     }
-    let name = format!(in rt.alloc(); "a Mutex taken and freed, {last} turns")?;
+    let name = format!(in rt.alloc(); "a Mutex acquired and released, {last} turns")?;
     report(rt, name.as_str(), start, TURNS)?;
     Ok(())
 }
 
 pub(crate) fn measure<R: Wait>(rt: &HostRuntime, waiting: &R) -> anyhow::Result<()> {
     grow_lock(rt, waiting)?;
-    mutex(rt, waiting)
+    measure_mutex(rt, waiting)
 }

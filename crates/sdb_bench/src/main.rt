@@ -18,16 +18,16 @@ use std::process::ExitCode;
 fn main(rt: HostRuntime) -> anyhow::Result<ExitCode> {
     let alloc = rt.alloc();
     let words: Vec<String> = env::args(&rt)?.collect(alloc)?;
-    let asked = match words.get(1) {
+    let measurement = match words.get(1) {
         Some(word) => word.as_str(),
         None => "",
     };
-    match (asked, words.get(2)) {
-        ("json", None) => json::pass(&rt)?,
-        ("read", None) => json::read(&rt)?,
+    match (measurement, words.get(2)) {
+        ("json", None) => json::parse_and_print(&rt)?,
+        ("read", None) => json::parse(&rt)?,
         ("apply", None) => applying::measure(&rt)?,
         ("fetch", None) => fetching::measure(&rt)?,
-        ("transform", None) => transforming::carry(&rt)?,
+        ("transform", None) => transforming::transform_repeatedly(&rt)?,
         ("cross", None) => transforming::cross_once(&rt)?,
         ("lock", None) => locking::measure(&rt, &rt)?,
         ("echo", Some(address)) => echoing::serve(rt, address.as_str())?,

@@ -1,4 +1,4 @@
-//! The time to transform components and operations against one another.
+//! The time to transform components and operations against each other.
 use crate::input::read;
 use crate::timing::report;
 use sdb_component::Component;
@@ -9,7 +9,7 @@ const CALLS: u64 = 1_000_000;
 
 // Transforms a component against the other one again and again, each time the last component of the
 // result.
-pub(crate) fn carry(rt: &HostRuntime) -> anyhow::Result<()> {
+pub(crate) fn transform_repeatedly(rt: &HostRuntime) -> anyhow::Result<()> {
     let (_, mut ops) = read(rt)?;
     let (Some(other), Some(op)) = (ops.pop(), ops.pop()) else {
         return Ok(());
@@ -18,25 +18,29 @@ pub(crate) fn carry(rt: &HostRuntime) -> anyhow::Result<()> {
         let mut current = op.into_components(rt.alloc())?.pop();
         let start = Instant::now(rt)?;
         for _ in 0..CALLS {
-            current = carried(rt, current, other);
+            current = transform_once(rt, current, other);
         }
-        report(rt, "a component past another", start, CALLS)?;
+        report(rt, "a component transformed against another", start, CALLS)?;
     }
     Ok(())
 }
 
-fn carried(rt: &HostRuntime, current: Option<Component>, other: &Component) -> Option<Component> {
+fn transform_once(
+    rt: &HostRuntime,
+    current: Option<Component>,
+    other: &Component,
+) -> Option<Component> {
     let results = transform_one(rt.alloc(), current?, other, Side::Left);
     results.ok()?.pop()
 }
 
-// Transforms two operations against one another, once.
+// Transforms two operations against each other once.
 pub(crate) fn cross_once(rt: &HostRuntime) -> anyhow::Result<()> {
     let (_, ops) = read(rt)?;
     if let [left, right] = ops.as_slice() {
         let start = Instant::now(rt)?;
         let pairs = cross(rt.alloc(), left, right).map_or(0, |crossed| crossed.pairs);
-        let name = format!(in rt.alloc(); "two operations past one another, {pairs} pairs")?;
+        let name = format!(in rt.alloc(); "two operations crossed, {pairs} pairs")?;
         report(rt, name.as_str(), start, 1)?;
     }
     Ok(())

@@ -63,9 +63,9 @@ impl Document {
         submission: Submission,
         now: Moment,
         content: Option<Content>,
-        made: Option<Json>,
+        next_document: Option<Json>,
     ) -> Result<Document, AllocError>
-        requires { WillStore [] submission content (option_map value_of made) }
+        requires { WillStore [] submission content (option_map value_of next_document) }
         ensures log { IfOk result (λ d. d.log ≡ (decide [] submission now).log) }
         ensures cache { IfOk result (λ d. d.cache ≡ []) }
         ensures reply { OnOk result ((decide [] submission now).reply ≡ stored 0 (missed_entries [] submission)) }
@@ -79,7 +79,7 @@ impl Document {
             submission,
             now,
             content,
-            made,
+            next_document,
         )?;
         let cache = Cache::new(alloc);
         Ok(Document {
@@ -130,9 +130,9 @@ impl Document {
         submission: Submission,
         now: Moment,
         content: Option<Content>,
-        made: Option<Json>,
+        next_document: Option<Json>,
     ) -> Result<(), AllocError>
-        requires { WillStore self.old.log submission content (option_map value_of made) }
+        requires { WillStore self.old.log submission content (option_map value_of next_document) }
         ensures log { OnOk result (self.new.log ≡ (decide self.old.log submission now).log) }
         ensures reply { OnOk result ((decide self.old.log submission now).reply ≡
             stored (length self.old.log) (missed_entries self.old.log submission)) }
@@ -144,7 +144,7 @@ impl Document {
             current: present,
             ..
         } = self;
-        append_entry(alloc, log, present, submission, now, content, made)
+        append_entry(alloc, log, present, submission, now, content, next_document)
     }
 
     // Returns the document at a version, replayed from the nearest cached snapshot. The result is
@@ -352,10 +352,10 @@ pub(crate) fn apply_content(
     if matches!(content.kind(), Kind::Delete) {
         return Ok(None);
     }
-    let mut made = clone_document(alloc, document)?;
-    content.apply_to(alloc, &mut made)?;
-    freeze_all(alloc, &mut made)?;
-    Ok(made)
+    let mut next_document = clone_document(alloc, document)?;
+    content.apply_to(alloc, &mut next_document)?;
+    freeze_all(alloc, &mut next_document)?;
+    Ok(next_document)
 }
 
 // Refuses a create on a present document and an edit of an absent one.
@@ -387,10 +387,10 @@ fn append_entry(
     submission: Submission,
     now: Moment,
     content: Option<Content>,
-    made: Option<Json>,
+    next_document: Option<Json>,
 ) -> Result<(), AllocError>
     requires document { IsMadeDocument log.old present.old }
-    requires will_store { WillStore log.old submission content (option_map value_of made) }
+    requires will_store { WillStore log.old submission content (option_map value_of next_document) }
     ensures log { OnOk result (log.new ≡ (decide log.old submission now).log) }
     ensures reply { OnOk result
         ((decide log.old submission now).reply ≡ stored (length log.old) (missed_entries log.old submission)) }
@@ -400,7 +400,7 @@ fn append_entry(
     match mem::replace(log, Log::new(alloc)).reserve_append(submission) {
         Ok(prepared) => {
             *log = prepared.commit(now, content);
-            *present = made;
+            *present = next_document;
             Ok(())
         }
         Err(ReserveError { log: kept, error }) => {

@@ -88,9 +88,9 @@ impl DocumentSlot {
         submission: Submission,
         now: Moment,
         content: Option<Content>,
-        made: Option<Json>,
+        next_document: Option<Json>,
     ) -> Result<(), AllocError>
-        requires { WillStore self.old.document.log submission content (option_map value_of made) }
+        requires { WillStore self.old.document.log submission content (option_map value_of next_document) }
         ensures log { OnOk result (self.new.document.log ≡ (decide self.old.document.log submission now).log) }
         ensures reply { OnOk result ((decide self.old.document.log submission now).reply ≡
             stored (length self.old.document.log) (missed_entries self.old.document.log submission)) }
@@ -101,7 +101,14 @@ impl DocumentSlot {
             self.old.queues.queues self.new.queues.queues }
     {
         let version = version_of(&self.document);
-        append_to_document(&mut self.document, alloc, submission, now, content, made)?;
+        append_to_document(
+            &mut self.document,
+            alloc,
+            submission,
+            now,
+            content,
+            next_document,
+        )?;
         push_to_rings(&mut self.queues, &self.document, version);
         Ok(())
     }
@@ -260,9 +267,9 @@ fn append_to_document(
     submission: Submission,
     now: Moment,
     content: Option<Content>,
-    made: Option<Json>,
+    next_document: Option<Json>,
 ) -> Result<(), AllocError>
-    requires { WillStore (document_or_empty document.old).log submission content (option_map value_of made) }
+    requires { WillStore (document_or_empty document.old).log submission content (option_map value_of next_document) }
     ensures log { OnOk result
         ((document_or_empty document.new).log ≡ (decide (document_or_empty document.old).log submission now).log) }
     ensures reply { OnOk result ((decide (document_or_empty document.old).log submission now).reply ≡
@@ -273,9 +280,9 @@ fn append_to_document(
     ensures cache_unchanged { (document_or_empty document.new).cache ≡ (document_or_empty document.old).cache }
 {
     match document {
-        Some(document) => document.append(alloc, submission, now, content, made),
+        Some(document) => document.append(alloc, submission, now, content, next_document),
         None => {
-            let first = Document::with_first_entry(alloc, submission, now, content, made)?;
+            let first = Document::with_first_entry(alloc, submission, now, content, next_document)?;
             *document = Some(try_box(alloc, first)?);
             Ok(())
         }

@@ -327,8 +327,8 @@ impl Shard {
             (ringed_queues_of self.new) }
     {
         let content = work.content()?;
-        let made = clone_document(self.alloc, work.snapshot()?)?;
-        self.append(key, work.submission(), now, content, made)?;
+        let next_document = clone_document(self.alloc, work.snapshot()?)?;
+        self.append(key, work.submission(), now, content, next_document)?;
         Ok(())
     }
 
@@ -355,9 +355,9 @@ impl Shard {
             (ringed_queues_of self.new) }
     {
         let content = self.rebase(key, submission)?;
-        let made = self.apply(key, content.as_ref().unwrap_or(submission.content()))?;
+        let next_document = self.apply(key, content.as_ref().unwrap_or(submission.content()))?;
         let missed = self.clone_missed_entries(key, submission)?;
-        self.append(key, submission, now, content.as_ref(), made)?;
+        self.append(key, submission, now, content.as_ref(), next_document)?;
         Ok(missed)
     }
 
@@ -417,10 +417,10 @@ impl Shard {
         submission: &Submission,
         now: Moment,
         content: Option<&Content>,
-        made: Option<Json>,
+        next_document: Option<Json>,
     ) -> Result<(), AllocError>
         requires { WillStore (logs_of self.old (plain_key key.now)) submission.now
-            (option_map (λ c. c.now) content) (option_map value_of made) }
+            (option_map (λ c. c.now) content) (option_map value_of next_document) }
         ensures logs { OnOk result (logs_of self.new ≡ with_log (logs_of self.old) (plain_key key.now)
             (decide (logs_of self.old (plain_key key.now)) submission.now now).log) }
         ensures reply { OnOk result ((decide (logs_of self.old (plain_key key.now)) submission.now now).reply ≡
@@ -435,8 +435,8 @@ impl Shard {
         let submission = submission.try_clone()?;
         let content = clone_content(content)?;
         match self.slots.get_mut(key) {
-            Some(slot) => slot.append(self.alloc, submission, now, content, made),
-            None => self.append_first(key, submission, now, content, made),
+            Some(slot) => slot.append(self.alloc, submission, now, content, next_document),
+            None => self.append_first(key, submission, now, content, next_document),
         }
     }
 
@@ -447,10 +447,10 @@ impl Shard {
         submission: Submission,
         now: Moment,
         content: Option<Content>,
-        made: Option<Json>,
+        next_document: Option<Json>,
     ) -> Result<(), AllocError>
         requires nothing { empty_slot ≡ slots_of self.old (plain_key key.now) }
-        requires will_store { WillStore [] submission content (option_map value_of made) }
+        requires will_store { WillStore [] submission content (option_map value_of next_document) }
         ensures logs { OnOk result
             (logs_of self.new ≡ with_log (logs_of self.old) (plain_key key.now) (decide [] submission now).log) }
         ensures reply { OnOk result ((decide [] submission now).reply ≡ stored 0 (missed_entries [] submission)) }
@@ -461,7 +461,7 @@ impl Shard {
             (ringed_queues_of self.new) }
     {
         let mut slot = DocumentSlot::new(self.alloc);
-        slot.append(self.alloc, submission, now, content, made)?;
+        slot.append(self.alloc, submission, now, content, next_document)?;
         self.insert_slot(key, slot)?;
         Ok(())
     }

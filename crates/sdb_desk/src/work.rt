@@ -138,15 +138,15 @@ impl Work {
         ensures err { IfErr result (λ a. plain_attempt a ≡ plain_attempt attempt) }
         ensures memory { OnErr result (work_allocates (plain_attempt attempt) ≡ true) }
     {
-        let made = match apply_rebased(alloc, &attempt, &worked) {
-            Ok(made) => Ok(made),
+        let next_document = match apply_rebased(alloc, &attempt, &worked) {
+            Ok(next_document) => Ok(next_document),
             Err(Code::E10) => return Err(attempt),
             Err(code) => Err(code),
         };
         Ok(Work {
             attempt,
             rebased: worked,
-            new_document: made,
+            new_document: next_document,
         })
     }
 
@@ -200,7 +200,7 @@ impl Work {
         ensures err { self.now.look.repeat ≡ None → IfErr result (λ code. work_result self.now ≡ Err code) }
     {
         match &self.new_document {
-            Ok(made) => Ok(made.as_ref()),
+            Ok(next_document) => Ok(next_document.as_ref()),
             Err(code) => Err(*code),
         }
     }

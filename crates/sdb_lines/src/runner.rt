@@ -47,10 +47,10 @@ impl Counts {
 #[derive(Clone, Copy, Debug, PartialEq, Eq, Error)]
 pub enum RunFault {
     /// A read failed, or [`READ_LIMIT`] reads did not reach the end of the input.
-    #[error("the input could not be read to its end")]
+    #[error("reading the input failed")]
     ReadFailed,
     /// A write or a flush failed, or a write of one or more bytes wrote 0.
-    #[error("an answer could not be written")]
+    #[error("writing the output failed")]
     WriteFailed,
     /// An allocation failed: for the read buffer of 64 KiB, a line or its response.
     #[error("out of memory")]

@@ -340,9 +340,9 @@ fn at_most_64_kib_of_output_are_pending(rt: HostRuntime) {
 
 #[test]
 fn faults_display_their_texts(rt: HostRuntime) {
-    let read = "the input could not be read to its end";
+    let read = "reading the input failed";
     assert!(rt; displays_as(&rt, rt.alloc(), &RunFault::ReadFailed, read));
-    let write = "an answer could not be written";
+    let write = "writing the output failed";
     assert!(rt;
         displays_as(&rt, rt.alloc(), &RunFault::WriteFailed, write)
             && displays_as(&rt, rt.alloc(), &RunFault::OutOfMemory, "out of memory")

@@ -248,8 +248,8 @@ fn edit_over(alloc: Global, op: &Op, other: &Op) -> Result<Content, Code>
     ensures ok { IfOk result (λ c. edit_over op.now other.now ≡ Ok c) }
     ensures err { IfErr result (λ code. IsRefusalOrOutOfMemory (edit_over op.now other.now) code) }
 {
-    let carried = transform(alloc, op, other, Side::Left)?;
-    Ok(Content::edit(alloc, carried)?)
+    let rebased = transform(alloc, op, other, Side::Left)?;
+    Ok(Content::edit(alloc, rebased)?)
 }
 
 /// Transforms a content against each entry in order, up to the first refusal. Returns `None` if the
@@ -263,28 +263,28 @@ pub fn rebase(alloc: Global, content: &Content, entries: &[Entry]) -> Result<Opt
     ensures err { IfErr result (λ code. IsRefusalOrOutOfMemory (rebase content.now entries.now) code) }
     ensures memory { IsErrOf result E10 → rebase_allocates content.now entries.now ≡ true }
 {
-    let mut carried = None;
+    let mut rebased = None;
     for entry in entries {
-        carried = rebase_step(alloc, carried, content, entry.content())?;
+        rebased = rebase_step(alloc, rebased, content, entry.content())?;
     }
-    Ok(carried)
+    Ok(rebased)
 }
 
 // Transforms against one more stored content and drops the earlier result. Returns `None` if the
 // content is known to be unchanged.
 fn rebase_step(
     alloc: Global,
-    carried: Option<Content>,
+    rebased: Option<Content>,
     content: &Content,
     stored: &Content,
 ) -> Result<Option<Content>, Code>
-    ensures ok { IfOk result (λ m. over (unwrap_or carried content.now) stored.now ≡ Ok (unwrap_or m content.now)) }
-    ensures err { IfErr result (λ code. IsRefusalOrOutOfMemory (over (unwrap_or carried content.now) stored.now) code) }
-    ensures memory { IsErrOf result E10 → over_allocates (unwrap_or carried content.now) stored.now ≡ true }
+    ensures ok { IfOk result (λ m. over (unwrap_or rebased content.now) stored.now ≡ Ok (unwrap_or m content.now)) }
+    ensures err { IfErr result (λ code. IsRefusalOrOutOfMemory (over (unwrap_or rebased content.now) stored.now) code) }
+    ensures memory { IsErrOf result E10 → over_allocates (unwrap_or rebased content.now) stored.now ≡ true }
 {
-    match carried {
+    match rebased {
         None => rebase_first(alloc, content, stored),
-        Some(carried) => Ok(Some(rebase_next(alloc, carried, stored)?)),
+        Some(rebased) => Ok(Some(rebase_next(alloc, rebased, stored)?)),
     }
 }
 
@@ -301,12 +301,12 @@ fn rebase_first(alloc: Global, content: &Content, stored: &Content) -> Result<Op
 }
 
 // Transforms an owned content.
-fn rebase_next(alloc: Global, carried: Content, stored: &Content) -> Result<Content, Code>
-    ensures ok { IfOk result (λ c. over carried stored.now ≡ Ok c) }
-    ensures err { IfErr result (λ code. IsRefusalOrOutOfMemory (over carried stored.now) code) }
-    ensures memory { IsErrOf result E10 → over_allocates carried stored.now ≡ true }
+fn rebase_next(alloc: Global, rebased: Content, stored: &Content) -> Result<Content, Code>
+    ensures ok { IfOk result (λ c. over rebased stored.now ≡ Ok c) }
+    ensures err { IfErr result (λ code. IsRefusalOrOutOfMemory (over rebased stored.now) code) }
+    ensures memory { IsErrOf result E10 → over_allocates rebased stored.now ≡ true }
 {
-    match (carried.kind, stored.kind()) {
+    match (rebased.kind, stored.kind()) {
         (Kind::Edit(op), Kind::Edit(other)) => rebase_owned_edit(alloc, op, other),
         (kind, _) => over(alloc, &Content { kind }, stored),
     }
@@ -318,7 +318,7 @@ fn rebase_edit(alloc: Global, op: &Op, other: &Op) -> Result<Option<Content>, Co
     ensures err { IfErr result (λ code. IsRefusalOrOutOfMemory (edit_over op.now other.now) code) }
 {
     match transform_if_changed(alloc, op, other, Side::Left)? {
-        Some(carried) => Ok(Some(Content::edit(alloc, carried)?)),
+        Some(rebased) => Ok(Some(Content::edit(alloc, rebased)?)),
         None => Ok(None),
     }
 }
@@ -328,8 +328,8 @@ fn rebase_owned_edit(alloc: Global, op: Arc<Op>, other: &Op) -> Result<Content, 
     ensures ok { IfOk result (λ c. edit_over (arc_value op) other.now ≡ Ok c) }
     ensures err { IfErr result (λ code. IsRefusalOrOutOfMemory (edit_over (arc_value op) other.now) code) }
 {
-    let carried = transform_owned(alloc, op, other, Side::Left)?;
+    let rebased = transform_owned(alloc, op, other, Side::Left)?;
     Ok(Content {
-        kind: Kind::Edit(carried),
+        kind: Kind::Edit(rebased),
     })
 }

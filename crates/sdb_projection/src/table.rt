@@ -13,16 +13,16 @@ use thiserror::Error;
 #[derive(Clone, Copy, Debug, PartialEq, Eq, Drop, Error)]
 pub enum TableFault {
     /// The table has a projection of this name.
-    #[error("a projection has this name already")]
+    #[error("another projection has this name")]
     DuplicateName,
     /// The name is that of the base collection.
-    #[error("a projection can not have the name of its collection")]
+    #[error("a projection cannot have the name of its collection")]
     NameOfBase,
     /// The base collection is a projection of the table, or the name is the base of one.
-    #[error("a projection can not show a projection")]
+    #[error("a projection cannot project another projection")]
     BaseIsProjection,
     /// It has no field.
-    #[error("a projection needs a field")]
+    #[error("a projection needs at least one field")]
     NoField,
     /// An allocation failed.
     #[error("out of memory")]

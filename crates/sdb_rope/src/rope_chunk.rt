@@ -76,9 +76,9 @@ impl RopeChunk {
         ensures bytes { chunk_bytes self.new ≡ remove_range (chunk_bytes self.old) from to }
         ensures unique { is_unique_rope_chunk self.new ≡ true }
     {
-        let gone = units(&self.text.as_str()[from..to]);
+        let removed_units = units(&self.text.as_str()[from..to]);
         self.text.remove(from, to);
-        self.units -= gone;
+        self.units -= removed_units;
     }
 
     /// Clones the chunk so that the clone is shared.

@@ -43,11 +43,11 @@ where
         ensures pass_count { IfOk result (λ r. r.pass_count ≡ 0) }
         ensures sessions { IfOk result (λ r. NoThreads r.sessions) }
     {
-        let visits = HandshakeThreads::new(alloc)?;
+        let handshakes = HandshakeThreads::new(alloc)?;
         let sessions = SessionThreads::new(alloc, is_keeping)?;
         state.open();
         Ok(Acceptor {
-            handshakes: visits,
+            handshakes,
             sessions,
             pass_count: 0,
             is_accept_failing: false,
@@ -303,17 +303,17 @@ where
     ensures host_unchanged_on_err { OnErr result (host.new ≡ host.old) }
 {
     listener.set_nonblocking(true)?;
-    let mut reception = Acceptor::new(alloc, state, false)?;
+    let mut acceptor = Acceptor::new(alloc, state, false)?;
     for _ in rt.forever() {
-        let is_full = connections == Some(reception.pass_count);
-        if is_full && reception.sessions.is_empty() {
+        let is_full = connections == Some(acceptor.pass_count);
+        if is_full && acceptor.sessions.is_empty() {
             state.stop_admitting();
         }
-        if is_full && reception.is_empty() {
+        if is_full && acceptor.is_empty() {
             return Ok(());
         }
         let open = if is_full { None } else { Some(listener) };
-        if !reception.step(rt, alloc, open, state, host) {
+        if !acceptor.step(rt, alloc, open, state, host) {
             thread::sleep(&rt, Duration::from_millis(PAUSE_MS));
         }
     }
@@ -343,17 +343,17 @@ where
     ensures host_unchanged_on_err { OnErr result (host.new ≡ host.old) }
 {
     listener.set_nonblocking(true)?;
-    let mut reception = Acceptor::new(alloc, state, true)?;
+    let mut acceptor = Acceptor::new(alloc, state, true)?;
     for _ in rt.forever() {
         let is_stopped = state.is_stopped();
         if is_stopped {
             state.end(&rt);
         }
-        if is_stopped && reception.is_empty() {
-            return Ok(reception.sessions.into_passes());
+        if is_stopped && acceptor.is_empty() {
+            return Ok(acceptor.sessions.into_passes());
         }
         let open = if is_stopped { None } else { Some(listener) };
-        if !reception.step(rt, alloc, open, state, host) {
+        if !acceptor.step(rt, alloc, open, state, host) {
             thread::sleep(&rt, Duration::from_millis(PAUSE_MS));
         }
     }

@@ -195,9 +195,9 @@ pub(crate) fn serve_until<'a, R: Wait + Drop, C: Clock + Drop, S: Read + Write +
         operations: 0,
     };
     let end = client.run();
-    let farewell = client.close_action(end);
+    let action = client.close_action(end);
     let (socket, served) = client.finish(end);
-    send_close_action(alloc, socket, farewell);
+    send_close_action(alloc, socket, action);
     served
 }
 
@@ -484,10 +484,10 @@ fn source_of(alloc: Global, session: &Session) -> Option<String> {
 fn send_close_action<S: Read + Write + Drop>(
     alloc: Global,
     socket: &mut WebSocket<DeadlineStream<S>, NoMask>,
-    farewell: CloseAction,
+    action: CloseAction,
 ) {
     socket.get_mut().restart();
-    match farewell {
+    match action {
         CloseAction::None => {}
         CloseAction::Close(code) => close_and_drain(socket, code),
         CloseAction::Refuse(texts) => refuse_too_long(alloc, socket.get_mut(), texts),

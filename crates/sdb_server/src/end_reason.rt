@@ -43,15 +43,15 @@ impl SessionEnd {
 impl fmt::Display for SessionEnd {
     fn fmt<W: fmt::Write>(&self, f: &mut fmt::Formatter<W>) -> fmt::Result {
         f.write_str(match self {
-            SessionEnd::Closed => "the client closed it",
+            SessionEnd::Closed => "the client closed the connection",
             SessionEnd::Lost => "the connection was lost",
             SessionEnd::TooLong => "a message was too long",
             SessionEnd::Silent => "the client was silent",
-            SessionEnd::Slow => "a message came too slowly",
-            SessionEnd::Protocol => "the client went without a close, or broke the protocol",
-            SessionEnd::NotText => "a text was not UTF-8",
-            SessionEnd::OutOfMemory => "memory was wanting",
-            SessionEnd::Stopped => "the server was stopped",
+            SessionEnd::Slow => "a message arrived too slowly",
+            SessionEnd::Protocol => "the client violated the protocol, or sent no close frame",
+            SessionEnd::NotText => "a text message was not UTF-8",
+            SessionEnd::OutOfMemory => "an allocation failed",
+            SessionEnd::Stopped => "the server is shutting down",
         })
     }
 }

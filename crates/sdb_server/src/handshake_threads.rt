@@ -84,11 +84,11 @@ fn spawn<R: Threads + Wait + Drop + Copy + Send + Sync + 'static>(
     stream: TcpStream,
     visit: HandshakeTask,
 ) -> Option<JoinHandle<Option<TcpStream>>> {
-    let theirs = Arc::try_clone(state).ok()?;
+    let shared_state = Arc::try_clone(state).ok()?;
     let run = move || -> Option<TcpStream> {
-        let greeted = theirs.receive(alloc, stream, visit);
-        theirs.record_end(&rt, Slot::Handshake(slot));
-        greeted
+        let outcome = shared_state.receive(alloc, stream, visit);
+        shared_state.record_end(&rt, Slot::Handshake(slot));
+        outcome
     };
     thread::spawn(&rt, run).ok()
 }

@@ -152,14 +152,14 @@ pub fn run_lines_at_exit<C: Clock + Drop, R: Source, W: Sink>(
         (R.calls reader.new) (R.failures reader.new) }
     ensures write_failures { WriteFaultIsCounted result (W.failures writer.old) (W.failures writer.new) }
 {
-    let mut kept = LineSession {
+    let mut leaked_session = LineSession {
         table,
         clock,
         shard: Shard::new(alloc),
         session: new_session(alloc)?,
     };
-    let counts = run(alloc, &mut kept, reader, writer);
-    forget(kept);
+    let counts = run(alloc, &mut leaked_session, reader, writer);
+    forget(leaked_session);
     counts
 }
 

@@ -36,10 +36,12 @@ pub(crate) fn log_end(rt: &impl Eprint, report: &SessionReport) {
 
 /// Logs that no connection can be accepted.
 pub(crate) fn log_accept_error(rt: &impl Eprint, error: &Error) {
-    let _ = eprintln!(rt; "error: no connection can be accepted: {error}");
+    let _ = eprintln!(rt; "error: accepting a connection failed: {error}");
 }
 
 /// Logs that a connection was closed because no thread could be started.
 pub(crate) fn log_no_thread(rt: &impl Eprint) {
-    let _ = eprintln!(rt; "error: no thread can be started for a connection, which was closed");
+    let _ = eprintln!(rt;
+        "error: starting a thread for a connection failed; the connection was closed"
+    );
 }

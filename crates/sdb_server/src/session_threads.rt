@@ -139,15 +139,15 @@ impl<R: Wait + Drop> SessionThreads<R> {
     {
         let ThreadSlot {
             slot,
-            state: theirs,
+            state: shared_state,
             stream,
             spare,
         } = thread_slot;
-        let promise = BackendPromise(Snapshot::of(&theirs.backend));
+        let promise = BackendPromise(Snapshot::of(&shared_state.backend));
         let run = move || -> Served
-            requires { IsPassOfBackend pass theirs.value.backend }
-            ensures { IsPassOfBackend result.pass theirs.value.backend }
-        { serve_in(theirs, rt, alloc, slot, stream, pass) };
+            requires { IsPassOfBackend pass shared_state.value.backend }
+            ensures { IsPassOfBackend result.pass shared_state.value.backend }
+        { serve_in(shared_state, rt, alloc, slot, stream, pass) };
         match thread::spawn_with(&rt, promise, run) {
             Ok(handle) => {
                 self.insert_thread(slot, handle);

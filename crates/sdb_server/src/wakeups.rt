@@ -67,14 +67,14 @@ impl WakeRegistry {
     /// Creates a registry without sessions. Fails only if an allocation fails.
     pub(crate) fn new(alloc: Global) -> Result<WakeRegistry, AllocError> {
         let mut groups = Vec::with_capacity(alloc, CLIENT_LIMIT)?;
-        let mut sleepers = Vec::with_capacity(alloc, CLIENT_LIMIT)?;
+        let mut waiters = Vec::with_capacity(alloc, CLIENT_LIMIT)?;
         for _ in 0..CLIENT_LIMIT {
             groups.push(AtomicU64::new(0))?;
-            sleepers.push(Waiter::new())?;
+            waiters.push(Waiter::new())?;
         }
         Ok(WakeRegistry {
             buckets: groups,
-            waiters: sleepers,
+            waiters,
         })
     }
 
@@ -90,8 +90,8 @@ impl WakeRegistry {
 
     /// Wakes all sessions that wait.
     pub(crate) fn wake_all<R: Wait>(&self, rt: &R) {
-        for sleeper in &self.waiters {
-            sleeper.wake(rt);
+        for waiter in &self.waiters {
+            waiter.wake(rt);
         }
     }
 }
@@ -141,16 +141,11 @@ impl WakeHandle<'_> {
 
     /// Wakes all other sessions that wait and have the bucket.
     pub(crate) fn notify<R: Wait>(self, rt: &R, group: IdBucket) {
-        let followers = self.registry;
-        for (slot, (groups, sleeper)) in followers
-            .buckets
-            .iter()
-            .zip(&followers.waiters)
-            .enumerate()
-        {
+        let registry = self.registry;
+        for (slot, (groups, waiter)) in registry.buckets.iter().zip(&registry.waiters).enumerate() {
             let follows = groups.load(Ordering::SeqCst) & group.bit != 0;
             if follows && slot != self.slot {
-                sleeper.wake(rt);
+                waiter.wake(rt);
             }
         }
     }

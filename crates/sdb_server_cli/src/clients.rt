@@ -53,7 +53,7 @@ where
     let listener = match TcpListener::bind(&rt, address) {
         Ok(listener) => listener,
         Err(error) => {
-            eprintln!(rt; "error: can't listen on {address}: {error}")?;
+            eprintln!(rt; "error: cannot listen on {address}: {error}")?;
             return Ok(STATUS_FAULT);
         }
     };
@@ -133,17 +133,17 @@ where
     let alloc = rt.alloc();
     let (backend, mut host) = Backend::new(alloc, rt)?;
     let state = server(alloc, backend, table, is_logging)?;
-    let theirs = Arc::try_clone(&state)?;
+    let stopped_state = Arc::try_clone(&state)?;
     let waiting = thread::spawn(&rt, move || {
         read_to_end(input);
-        theirs.stop();
+        stopped_state.stop();
     })?;
     print_address(&rt, listener, is_dumping)?;
     let passes = listen_until_stopped(rt, alloc, listener, &state, &mut host)?;
     waiting.join(&rt);
     match Arc::try_unwrap(state) {
         Ok(state) => print_close(&rt, state.into_backend().close(host, passes), is_dumping),
-        Err(_) => print_close_fault(&rt, "somebody is still served"),
+        Err(_) => print_close_fault(&rt, "sessions are still open"),
     }
 }
 
@@ -240,7 +240,7 @@ impl<'a> DumpSource for AuditDocuments<'a> {
 }
 
 fn print_close_fault(rt: &impl Eprint, why: &str) -> anyhow::Result<u8> {
-    eprintln!(rt; "error: what is stored can't be told: {why}")?;
+    eprintln!(rt; "error: the number of stored operations is unavailable: {why}")?;
     Ok(STATUS_FAULT)
 }
 

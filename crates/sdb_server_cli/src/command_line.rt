@@ -43,7 +43,7 @@ fn command<'a>(alloc: Global) -> Result<Command<'a>, AllocError> {
 fn lines_option<'a>(alloc: Global) -> Arg<'a> {
     Arg::new(alloc, "lines")
         .long("lines")
-        .help("Answers the lines of one session on standard input and output")
+        .help("Serve one session of lines on standard input and output")
         .action(ArgAction::SetTrue)
 }
 
@@ -51,7 +51,7 @@ fn listen_option<'a>(alloc: Global) -> Arg<'a> {
     Arg::new(alloc, "listen")
         .long("listen")
         .value_name("ADDR")
-        .help("Serves WebSocket clients at this address, as 127.0.0.1:8080")
+        .help("Serve WebSocket clients at this address, such as 127.0.0.1:8080")
         .action(ArgAction::Set)
 }
 
@@ -59,7 +59,7 @@ fn connections_option<'a>(alloc: Global) -> Result<Arg<'a>, AllocError> {
     let connections = Arg::new(alloc, "connections")
         .long("connections")
         .value_name("N")
-        .help("With --listen, ends when N clients were served")
+        .help("With --listen, exit after serving N clients")
         .value_parser(ValueParser::unsigned(1, CONNECTION_LIMIT))
         .action(ArgAction::Set);
     connections.requires_arg("listen")?.conflicts_with("lines")
@@ -68,7 +68,9 @@ fn connections_option<'a>(alloc: Global) -> Result<Arg<'a>, AllocError> {
 fn until_eof_option<'a>(alloc: Global) -> Result<Arg<'a>, AllocError> {
     let until_eof = Arg::new(alloc, "until-eof")
         .long("until-eof")
-        .help("With --listen, ends at the end of standard input, and tells what was stored")
+        .help(
+            "With --listen, exit at the end of standard input, and print the number of stored operations",
+        )
         .action(ArgAction::SetTrue);
     until_eof
         .requires_arg("listen")?
@@ -79,7 +81,7 @@ fn until_eof_option<'a>(alloc: Global) -> Result<Arg<'a>, AllocError> {
 fn dump_option<'a>(alloc: Global) -> Result<Arg<'a>, AllocError> {
     let dump = Arg::new(alloc, "dump")
         .long("dump")
-        .help("With --until-eof, writes at the end the dump of what is stored")
+        .help("With --until-eof, write a dump of all logs at exit")
         .action(ArgAction::SetTrue);
     dump.requires_arg("until-eof")
 }
@@ -87,7 +89,7 @@ fn dump_option<'a>(alloc: Global) -> Result<Arg<'a>, AllocError> {
 fn log_option<'a>(alloc: Global) -> Result<Arg<'a>, AllocError> {
     let log = Arg::new(alloc, "log")
         .long("log")
-        .help("With --listen, tells on standard error when a client comes and goes")
+        .help("With --listen, log connections to standard error")
         .action(ArgAction::SetTrue);
     log.requires_arg("listen")?.conflicts_with("lines")
 }
@@ -96,7 +98,7 @@ fn projection_option<'a>(alloc: Global) -> Arg<'a> {
     Arg::new(alloc, "projection")
         .long("projection")
         .value_name("NAME=COLLECTION:FIELD,..")
-        .help("Shows these fields of a collection under another name")
+        .help("Project these fields of a collection under another name")
         .action(ArgAction::Append)
 }
 
@@ -206,15 +208,15 @@ pub fn parse_run<R>(rt: &R, words: &[String]) -> anyhow::Result<ParsedArgs>
 where
     R: AllocGlobal + Print + Eprint,
 {
-    let asked = match parse_options(rt.alloc(), words) {
-        Ok(asked) => asked,
+    let options = match parse_options(rt.alloc(), words) {
+        Ok(options) => options,
         Err(error) => return Ok(ParsedArgs::Help(print_help_or_error(rt, &error)?)),
     };
-    let Some(job) = asked.job else {
-        let why = "error: --listen takes an address, as 127.0.0.1:8080";
-        return Ok(ParsedArgs::Help(print_refusal(rt, why)?));
+    let Some(job) = options.job else {
+        let error_text = "error: --listen takes an address, such as 127.0.0.1:8080";
+        return Ok(ParsedArgs::Help(print_refusal(rt, error_text)?));
     };
-    match asked.table {
+    match options.table {
         Ok(table) => Ok(ParsedArgs::Run(job, table)),
         Err(refusal) => Ok(ParsedArgs::Help(refuse_projections(rt, refusal)?)),
     }

@@ -61,12 +61,12 @@ fn name_of(alloc: Global, text: &str) -> Result<String, ProjectionOptionError> {
     Ok(String::from_str(alloc, text)?)
 }
 
-// Empty pieces are skipped.
+// Skips empty fields.
 fn fields_of(alloc: Global, text: &str) -> Result<BTreeSet<String>, AllocError> {
     let mut fields = BTreeSet::new(alloc);
-    for piece in text.split(',') {
-        if !piece.is_empty() {
-            fields.insert(String::from_str(alloc, piece)?)?;
+    for field in text.split(',') {
+        if !field.is_empty() {
+            fields.insert(String::from_str(alloc, field)?)?;
         }
     }
     Ok(fields)

@@ -13,36 +13,32 @@ use std::io;
 use std::net::TcpListener;
 use std::process::Abort;
 
-fn words_of(rt: &impl Abort, alloc: Global, line: &str) -> Vec<String> {
+fn split_words(rt: &impl Abort, alloc: Global, line: &str) -> Vec<String> {
     argument_list(alloc, line).expect(rt, "out of memory")
 }
 
-fn asked(rt: &impl Abort, alloc: Global, line: &str) -> Option<Options> {
-    parse_options(alloc, words_of(rt, alloc, line).as_slice()).ok()
+fn parse(rt: &impl Abort, alloc: Global, line: &str) -> Option<Options> {
+    parse_options(alloc, split_words(rt, alloc, line).as_slice()).ok()
 }
 
 // Returns the number of fields of a projection.
-fn shown_by(table: &Table, name: &str) -> Option<usize> {
+fn field_count(table: &Table, name: &str) -> Option<usize> {
     let projection: Option<&Projection> = table.find(name);
     Some(projection?.fields.len())
 }
 
 #[test]
-fn command_lines(rt: HostRuntime) {
+fn projections_are_parsed(rt: HostRuntime) {
     let line = "sdb_server --lines --projection t=b:title,,n --projection u=c:x";
-    let asked = asked(&rt, rt.alloc(), line).expect(&rt, "a run");
-    assert!(rt; asked.job == Some(RunMode::Lines));
-    let table = asked.table.ok().expect(&rt, "a table");
-    assert!(rt; shown_by(&table, "t") == Some(2) && shown_by(&table, "u") == Some(1));
+    let options = parse(&rt, rt.alloc(), line).expect(&rt, "a run");
+    assert!(rt; options.job == Some(RunMode::Lines));
+    let table = options.table.ok().expect(&rt, "a table");
+    assert!(rt; field_count(&table, "t") == Some(2) && field_count(&table, "u") == Some(1));
 }
 
 // Returns the port, the stop condition and the log flag of a command line with `--listen`.
-fn asked_to_listen(
-    rt: &impl Abort,
-    alloc: Global,
-    line: &str,
-) -> Option<(u16, StopCondition, bool)> {
-    match asked(rt, alloc, line)?.job? {
+fn parse_listen(rt: &impl Abort, alloc: Global, line: &str) -> Option<(u16, StopCondition, bool)> {
+    match parse(rt, alloc, line)?.job? {
         RunMode::Listen {
             address,
             until,
@@ -53,7 +49,7 @@ fn asked_to_listen(
 }
 
 #[test]
-fn addresses_and_how_long(rt: HostRuntime) {
+fn addresses_and_stop_conditions_are_parsed(rt: HostRuntime) {
     for (line, wanted) in [
         (
             "sdb_server --listen 127.0.0.1:8080 --connections 2",
@@ -95,35 +91,35 @@ fn addresses_and_how_long(rt: HostRuntime) {
             None,
         ),
     ] {
-        assert!(rt; asked_to_listen(&rt, rt.alloc(), line) == wanted, "{line}");
+        assert!(rt; parse_listen(&rt, rt.alloc(), line) == wanted, "{line}");
     }
 }
 
 // Appends a letter so many times.
-fn add(rt: &impl Abort, text: &mut String, letter: char, count: usize) {
+fn push_repeated(rt: &impl Abort, text: &mut String, letter: char, count: usize) {
     for _ in 0..count {
         text.push(letter).expect(rt, "out of memory");
     }
 }
 
 // Returns a projection with the field x and names of these lengths in bytes.
-fn named(rt: &impl Abort, alloc: Global, name: usize, collection: usize) -> String {
+fn projection_with_names(rt: &impl Abort, alloc: Global, name: usize, collection: usize) -> String {
     let mut text = String::new(alloc);
-    add(rt, &mut text, 'p', name);
-    add(rt, &mut text, '=', 1);
-    add(rt, &mut text, 'c', collection);
-    add(rt, &mut text, ':', 1);
-    add(rt, &mut text, 'x', 1);
+    push_repeated(rt, &mut text, 'p', name);
+    push_repeated(rt, &mut text, '=', 1);
+    push_repeated(rt, &mut text, 'c', collection);
+    push_repeated(rt, &mut text, ':', 1);
+    push_repeated(rt, &mut text, 'x', 1);
     text
 }
 
 // Returns the reason why a projection is refused.
-fn refusal_of(alloc: Global, text: &str) -> Option<ProjectionOptionError> {
+fn table_error(alloc: Global, text: &str) -> Option<ProjectionOptionError> {
     table_of(alloc, &[text]).err()
 }
 
 #[test]
-fn projections_that_are_refused(rt: HostRuntime) {
+fn invalid_projections_are_refused(rt: HostRuntime) {
     for (text, refusal) in [
         ("t", ProjectionOptionError::Form),
         ("t=b", ProjectionOptionError::Form),
@@ -132,7 +128,7 @@ fn projections_that_are_refused(rt: HostRuntime) {
         ("t=:x", ProjectionOptionError::Name),
         ("t=b:,", ProjectionOptionError::Table(TableFault::NoField)),
     ] {
-        assert!(rt; refusal_of(rt.alloc(), text) == Some(refusal), "{text}");
+        assert!(rt; table_error(rt.alloc(), text) == Some(refusal), "{text}");
     }
 }
 
@@ -143,21 +139,21 @@ fn names_of_projections_have_at_most_200_bytes(rt: HostRuntime) {
         (201, 200, Some(ProjectionOptionError::Name)),
         (200, 201, Some(ProjectionOptionError::Name)),
     ] {
-        let text = named(&rt, rt.alloc(), name, collection);
+        let text = projection_with_names(&rt, rt.alloc(), name, collection);
         assert!(rt;
-            refusal_of(rt.alloc(), text.as_str()) == refusal,
+            table_error(rt.alloc(), text.as_str()) == refusal,
             "{name} and {collection}"
         );
     }
 }
 
-const TWO_JOBS: &str = "error: the argument '--lines' cannot be used with '--listen <ADDR>'\n";
+const TWO_MODES: &str = "error: the argument '--lines' cannot be used with '--listen <ADDR>'\n";
 
-const NO_ADDRESS: &str = "error: --listen takes an address, as 127.0.0.1:8080\n";
+const INVALID_ADDRESS: &str = "error: --listen takes an address, such as 127.0.0.1:8080\n";
 
-const NO_FORM: &str = "error: a projection is NAME=COLLECTION:FIELD,..\n";
+const INVALID_FORM: &str = "error: a projection is NAME=COLLECTION:FIELD,..\n";
 
-const NO_NAME: &str =
+const INVALID_NAME: &str =
     "error: the name of a projection and that of its collection have 1 to 200 bytes\n";
 
 // Returns the exit status of a command line that starts no run.
@@ -169,35 +165,41 @@ fn status_of(rt: &impl Abort, terminal: &TerminalBuffer, words: &[String]) -> Op
 }
 
 // Returns the exit status, standard output and standard error of a command line that starts no run.
-fn answered(rt: &impl Abort, alloc: Global, line: &str) -> (Option<u8>, String, String) {
-    let given = words_of(rt, alloc, line);
+fn run_without_job(rt: &impl Abort, alloc: Global, line: &str) -> (Option<u8>, String, String) {
+    let words = split_words(rt, alloc, line);
     let terminal = TerminalBuffer::new(alloc);
-    let status = status_of(rt, &terminal, given.as_slice());
+    let status = status_of(rt, &terminal, words.as_slice());
     (status, terminal.out.into_inner(), terminal.err.into_inner())
 }
 
 // Each refusal is one line on standard error. The options are checked first, then the address, then
 // the projections in order.
 #[test]
-fn command_lines_that_are_refused(rt: HostRuntime) {
-    for (line, told) in [
-        ("sdb_server --listen nowhere --projection t", NO_ADDRESS),
-        ("sdb_server --listen 127.0.0.1:0 --projection t", NO_FORM),
+fn a_refused_command_line_is_one_line_on_standard_error(rt: HostRuntime) {
+    for (line, expected) in [
+        (
+            "sdb_server --listen nowhere --projection t",
+            INVALID_ADDRESS,
+        ),
+        (
+            "sdb_server --listen 127.0.0.1:0 --projection t",
+            INVALID_FORM,
+        ),
         (
             "sdb_server --lines --projection t --projection =b:x",
-            NO_FORM,
+            INVALID_FORM,
         ),
         (
             "sdb_server --lines --projection =b:x --projection t",
-            NO_NAME,
+            INVALID_NAME,
         ),
         (
             "sdb_server --lines --listen nowhere --projection t",
-            TWO_JOBS,
+            TWO_MODES,
         ),
         ("sdb_server --lines --port", ""),
         ("sdb_server", ""),
-        ("sdb_server --lines --listen 127.0.0.1:0", TWO_JOBS),
+        ("sdb_server --lines --listen 127.0.0.1:0", TWO_MODES),
         ("sdb_server --lines --connections 1", ""),
         ("sdb_server --lines --until-eof", ""),
         ("sdb_server --lines --log", ""),
@@ -209,8 +211,8 @@ fn command_lines_that_are_refused(rt: HostRuntime) {
         ("sdb_server --listen 127.0.0.1:0 --connections 0", ""),
         ("sdb_server more", ""),
     ] {
-        let (status, out, err) = answered(&rt, rt.alloc(), line);
-        let is_one_line = err.as_str().lines().count() == 1 && err.as_str().starts_with(told);
+        let (status, out, err) = run_without_job(&rt, rt.alloc(), line);
+        let is_one_line = err.as_str().lines().count() == 1 && err.as_str().starts_with(expected);
         assert!(rt;
             status == Some(STATUS_USAGE) && out.is_empty() && is_one_line,
             "{line}"
@@ -221,9 +223,9 @@ fn command_lines_that_are_refused(rt: HostRuntime) {
 // The version is one line.
 #[test]
 fn help_and_the_version_are_printed(rt: HostRuntime) {
-    let (status, out, err) = answered(&rt, rt.alloc(), "sdb_server --help");
+    let (status, out, err) = run_without_job(&rt, rt.alloc(), "sdb_server --help");
     assert!(rt; status == Some(STATUS_OK) && err.is_empty() && !out.is_empty());
-    let (status, out, err) = answered(&rt, rt.alloc(), "sdb_server --version");
+    let (status, out, err) = run_without_job(&rt, rt.alloc(), "sdb_server --version");
     assert!(rt;
         status == Some(STATUS_OK) && err.is_empty() && out.as_str() == "sdb_server 1.0.0\n"
     );
@@ -233,7 +235,7 @@ const TWO_LINES: &[u8] = b"one\ntwo\n";
 
 // A server for 0 connections, and one whose input has ended.
 #[test]
-fn servers_that_end(rt: HostRuntime) {
+fn a_server_ends_at_its_stop_condition(rt: HostRuntime) {
     let listener = TcpListener::bind(&rt, "127.0.0.1:0").expect(&rt, "a port");
     let status = serve_at(
         rt,
@@ -255,28 +257,28 @@ fn servers_that_end(rt: HostRuntime) {
 }
 
 #[test]
-fn a_port_that_is_taken(rt: HostRuntime) {
+fn a_port_in_use_ends_with_status_1(rt: HostRuntime) {
     let alloc = rt.alloc();
     let listener = TcpListener::bind(&rt, "127.0.0.1:0").expect(&rt, "a port");
     let address = listener.local_addr().expect(&rt, "an address");
     let line = format!(in alloc; "sdb_server --listen {address} --connections 1");
-    let given = words_of(&rt, alloc, line.expect(&rt, "out of memory").as_str());
-    assert!(rt; run(rt, given.as_slice()).ok() == Some(STATUS_FAULT));
+    let words = split_words(&rt, alloc, line.expect(&rt, "out of memory").as_str());
+    assert!(rt; run(rt, words.as_slice()).ok() == Some(STATUS_FAULT));
 }
 
 // An input and an output on which each call fails.
 #[derive(Drop)]
-struct Broken {
+struct FailingStreams {
     alloc: Global,
 }
 
-impl io::Read for Broken {
+impl io::Read for FailingStreams {
     fn read(&mut self, _buf: &mut [u8]) -> io::Result<usize> {
         Err(io::Error::from(io::ErrorKind::BrokenPipe))
     }
 }
 
-impl Print for Broken {
+impl Print for FailingStreams {
     fn print<D: Display + Drop>(&self, _value: D) -> io::Result<()> {
         Err(io::Error::from(io::ErrorKind::BrokenPipe))
     }
@@ -290,7 +292,7 @@ impl Print for Broken {
     }
 }
 
-impl Alloc for Broken {
+impl Alloc for FailingStreams {
     type A = Global;
 
     fn alloc(&self) -> Global {
@@ -299,7 +301,7 @@ impl Alloc for Broken {
 }
 
 // Returns a clock that always reads 0.
-fn no_clock(alloc: Global) -> ListClock {
+fn clock_at_zero(alloc: Global) -> ListClock {
     ListClock::new(Vec::new(alloc))
 }
 
@@ -309,16 +311,30 @@ const FETCHED: &str = r#"{"a":"f","c":"b","d":"1","data":{"type":null,"v":0}}
 "#;
 
 // Returns whether the run on the input ends with this status and its output with this text.
-fn ends_with(alloc: Global, input: impl io::Read + Drop, status: u8, told: &str) -> bool {
+fn ends_with(alloc: Global, input: impl io::Read + Drop, status: u8, expected: &str) -> bool {
     let terminal = TerminalBuffer::new(alloc);
-    answer_input(&terminal, no_clock(alloc), input, &Table::new(alloc)) == status
-        && terminal.out.into_inner().as_str().ends_with(told)
+    answer_input(&terminal, clock_at_zero(alloc), input, &Table::new(alloc)) == status
+        && terminal.out.into_inner().as_str().ends_with(expected)
 }
 
 #[test]
-fn statuses_of_lines(rt: HostRuntime) {
+fn a_line_session_returns_its_status(rt: HostRuntime) {
     let (alloc, table) = (rt.alloc(), Table::new(rt.alloc()));
     assert!(rt; ends_with(alloc, LINE, STATUS_OK, FETCHED));
-    assert!(rt; ends_with(alloc, Broken { alloc }, STATUS_FAULT, "fault: read\n"));
-    assert!(rt; answer_input(&Broken { alloc }, no_clock(alloc), LINE, &table) == STATUS_FAULT);
+    assert!(rt;
+        ends_with(
+            alloc,
+            FailingStreams { alloc },
+            STATUS_FAULT,
+            "fault: read\n"
+        )
+    );
+    assert!(rt;
+        answer_input(
+            &FailingStreams { alloc },
+            clock_at_zero(alloc),
+            LINE,
+            &table
+        ) == STATUS_FAULT
+    );
 }

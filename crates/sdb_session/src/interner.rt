@@ -25,8 +25,8 @@ impl NameInterner {
     pub(crate) fn intern(&mut self, alloc: Global, name: &str) -> Result<Arc<String>, AllocError>
         ensures { IfOk result (λ n. string_bytes (arc_value n) ≡ name.now) }
     {
-        if let Some(kept) = self.find(name)? {
-            return Ok(kept);
+        if let Some(interned) = self.find(name)? {
+            return Ok(interned);
         }
         let fresh = Arc::new(alloc, String::from_str(alloc, name)?)?;
         self.remember(Arc::try_clone(&fresh)?)?;
@@ -36,9 +36,9 @@ impl NameInterner {
     fn find(&self, name: &str) -> Result<Option<Arc<String>>, AllocError>
         ensures { IfOk result (λ o. IfSome o (λ n. string_bytes (arc_value n) ≡ name.now)) }
     {
-        for kept in self.names.as_slice() {
-            if kept.as_str() == name {
-                return Ok(Some(Arc::try_clone(kept)?));
+        for interned in self.names.as_slice() {
+            if interned.as_str() == name {
+                return Ok(Some(Arc::try_clone(interned)?));
             }
         }
         Ok(None)

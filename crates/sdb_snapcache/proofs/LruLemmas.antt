@@ -79,8 +79,8 @@ eight_used v es fs is few = let n = few_promoted v es (lookup_entry (nat_eq v) e
 put_at : (v : ℕ) (d : Json) (es : List CacheEntry) (o : Option CacheEntry) → lookup_entry (nat_eq v) es ≡ o → length es ≤ 8
     → plain_snapshots (option_map_or (λ e. (e.0, d) ∷ remove_entry (nat_eq v) es) o ((v, d) ∷ take 7 es)) ≡ insert_front v (value_of d) (plain_snapshots es)
 put_at v d es None h few =
-    let kept : without_version v (plain_snapshots es) ≡ plain_snapshots es = without_entries v es ∙ ap plain_snapshots (none_removed v es h) in
-    ap (λ l. plain_snapshot (v, d) ∷ l) (sym (take-map plain_snapshot 7 es) ∙ ap (take 7) (sym kept))
+    let cached : without_version v (plain_snapshots es) ≡ plain_snapshots es = without_entries v es ∙ ap plain_snapshots (none_removed v es h) in
+    ap (λ l. plain_snapshot (v, d) ∷ l) (sym (take-map plain_snapshot 7 es) ∙ ap (take 7) (sym cached))
 put_at v d es (Some e) h few =
     let f = found_entry v es e h in
     let n = f.less in
@@ -112,15 +112,15 @@ pub unchanged_of : (o : Option (LruCache ℕ Json)) (k : LruCache ℕ Json) → 
 unchanged_of o k h = ap snapshots_of h
 
 abbrev VersionsDistinct : List Snapshot → Type 0
-VersionsDistinct kept = IsDistinct nat_eq (map (λ s. s.version) kept)
+VersionsDistinct cached = IsDistinct nat_eq (map (λ s. s.version) cached)
 
 versions_of : (es : List CacheEntry) → map (λ s. s.version) (plain_snapshots es) ≡ keys_of es
 versions_of [] = refl
 versions_of (e ∷ es) = ap (λ l. e.0 ∷ l) (versions_of es)
 
-pub apart_of : (o : Option (LruCache ℕ Json)) (k : LruCache ℕ Json) (kept : List Snapshot) → o ≡ Some k → snapshots_of o ≡ kept → IsDistinct nat_eq (keys_of k.entries) → IsDistinct nat_eq (map (λ s. s.version) kept)
-apart_of o k kept is value_of apart = subst VersionsDistinct (ap snapshots_of (sym is) ∙ value_of) (subst (IsDistinct nat_eq) (sym (versions_of k.entries)) apart)
+pub apart_of : (o : Option (LruCache ℕ Json)) (k : LruCache ℕ Json) (cached : List Snapshot) → o ≡ Some k → snapshots_of o ≡ cached → IsDistinct nat_eq (keys_of k.entries) → IsDistinct nat_eq (map (λ s. s.version) cached)
+apart_of o k cached is value_of apart = subst VersionsDistinct (ap snapshots_of (sym is) ∙ value_of) (subst (IsDistinct nat_eq) (sym (versions_of k.entries)) apart)
 
-pub apart_none : (o : Option (LruCache ℕ Json)) (kept : List Snapshot) → o ≡ None → snapshots_of o ≡ kept → IsDistinct nat_eq (map (λ s. s.version) kept)
+pub apart_none : (o : Option (LruCache ℕ Json)) (cached : List Snapshot) → o ≡ None → snapshots_of o ≡ cached → IsDistinct nat_eq (map (λ s. s.version) cached)
 unfolding IsDistinct
-apart_none o kept is value_of = subst VersionsDistinct (ap snapshots_of (sym is) ∙ value_of) tt
+apart_none o cached is value_of = subst VersionsDistinct (ap snapshots_of (sym is) ∙ value_of) tt

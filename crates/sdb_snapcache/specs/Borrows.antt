@@ -7,4 +7,4 @@ use Rattle.sdb_snapcache.specs.contracts.cache.Cache.{the_row}
 
 -- the cache then has these snapshots
 abbrev pub borrow_ends_with_cache : MutBor (List Snapshot) → List Snapshot → Fml
-borrow_ends_with_cache c kept = follows_so the_row the_row c.ghost_name none (λ _ _. ⊤) (λ n. n ≡ kept)
+borrow_ends_with_cache c cached = follows_so the_row the_row c.ghost_name none (λ _ _. ⊤) (λ n. n ≡ cached)

@@ -16,29 +16,29 @@ nearer_of v s (Some t) = if nat_le s.version v && nat_le t.version s.version the
 -- the snapshot with the greatest version up to v
 abbrev pub nearest : ℕ → List Snapshot → Option Snapshot
 nearest v [] = None
-nearest v (s ∷ kept) = nearer_of v s (nearest v kept)
+nearest v (s ∷ cached) = nearer_of v s (nearest v cached)
 
 -- the snapshot of this version
 abbrev pub snapshot_at_version : ℕ → List Snapshot → Option Snapshot
 snapshot_at_version v [] = None
-snapshot_at_version v (s ∷ kept) = cond (nat_eq v s.version) (Some s) (snapshot_at_version v kept)
+snapshot_at_version v (s ∷ cached) = cond (nat_eq v s.version) (Some s) (snapshot_at_version v cached)
 
 -- the snapshots of other versions
 abbrev pub without_version : ℕ → List Snapshot → List Snapshot
 without_version v [] = []
-without_version v (s ∷ kept) = cond (nat_eq v s.version) kept (s ∷ without_version v kept)
+without_version v (s ∷ cached) = cond (nat_eq v s.version) cached (s ∷ without_version v cached)
 
 -- the snapshot of this version moves to the front
 abbrev pub promote_version : ℕ → List Snapshot → List Snapshot
-promote_version v kept = option_map_or (λ s. s ∷ without_version v kept) (snapshot_at_version v kept) kept
+promote_version v cached = option_map_or (λ s. s ∷ without_version v cached) (snapshot_at_version v cached) cached
 
 -- the snapshot found for v moves to the front
 abbrev pub promote_nearest : ℕ → List Snapshot → List Snapshot
-promote_nearest v kept = option_map_or (λ s. promote_version s.version kept) (nearest v kept) kept
+promote_nearest v cached = option_map_or (λ s. promote_version s.version cached) (nearest v cached) cached
 
 -- the new snapshot and the others, the first eight
 abbrev pub insert_front : ℕ → Value → List Snapshot → List Snapshot
-insert_front v d kept = take 8 (record { version = v; value = d } ∷ without_version v kept)
+insert_front v d cached = take 8 (record { version = v; value = d } ∷ without_version v cached)
 
 -- the greater of two versions
 abbrev pub max_version : Option ℕ → Option ℕ → Option ℕ

@@ -59,7 +59,7 @@ impl Cache {
         ensures distinct { IsDistinct nat_eq (map (λ s. s.version) self.now) }
     {
         match &self.snapshots {
-            Some(kept) => kept.len(),
+            Some(cached) => cached.len(),
             None => 0,
         }
     }
@@ -81,9 +81,9 @@ impl Cache {
         ensures version { result ≡ option_map (λ s. s.version) (nearest v self.old) }
         ensures used { self.new ≡ promote_nearest v self.old }
     {
-        let kept = self.snapshots.as_mut()?;
-        let version = nearest_version(kept, v)?;
-        kept.promote(&version);
+        let cached = self.snapshots.as_mut()?;
+        let version = nearest_version(cached, v)?;
+        cached.promote(&version);
         Some(version)
     }
 
@@ -106,11 +106,11 @@ impl Cache {
         ensures err { OnErr result (self.new ≡ self.old) }
     {
         match &mut self.snapshots {
-            Some(kept) => insert(kept, version, value),
+            Some(cached) => insert(cached, version, value),
             None => {
-                let mut kept = LruCache::new(self.alloc, cache_capacity())?;
-                insert(&mut kept, version, value)?;
-                self.snapshots = Some(kept);
+                let mut cached = LruCache::new(self.alloc, cache_capacity())?;
+                insert(&mut cached, version, value)?;
+                self.snapshots = Some(cached);
                 Ok(())
             }
         }
@@ -132,23 +132,24 @@ fn cache_capacity() -> NonZeroUsize
 }
 
 // Inserts a snapshot at the front. If an allocation fails, all is unchanged.
-fn insert(kept: &mut LruCache<u64, Json>, version: u64, value: Json) -> Result<(), AllocError>
-    requires { HasCapacityEight kept.old }
+fn insert(cached: &mut LruCache<u64, Json>, version: u64, value: Json) -> Result<(), AllocError>
+    requires { HasCapacityEight cached.old }
     ensures ok { OnOk result
-        (plain_snapshots kept.new.entries ≡ insert_front version (value_of value) (plain_snapshots kept.old.entries)) }
-    ensures err { OnErr result (kept.new ≡ kept.old) }
-    ensures length { HasCapacityEight kept.new }
+        (plain_snapshots cached.new.entries
+        ≡ insert_front version (value_of value) (plain_snapshots cached.old.entries)) }
+    ensures err { OnErr result (cached.new ≡ cached.old) }
+    ensures length { HasCapacityEight cached.new }
 {
-    drop(kept.put(version, value)?);
+    drop(cached.put(version, value)?);
     Ok(())
 }
 
 // Returns the greatest cached version up to `v`.
-fn nearest_version(kept: &LruCache<u64, Json>, v: u64) -> Option<u64>
-    ensures { result ≡ option_map (λ s. s.version) (nearest v (plain_snapshots kept.now.entries)) }
+fn nearest_version(cached: &LruCache<u64, Json>, v: u64) -> Option<u64>
+    ensures { result ≡ option_map (λ s. s.version) (nearest v (plain_snapshots cached.now.entries)) }
 {
     let mut found = None;
-    for (version, _) in kept.iter() {
+    for (version, _) in cached.iter() {
         if *version <= v {
             found = Some(max_version(found, *version));
         }

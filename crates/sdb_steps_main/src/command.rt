@@ -20,16 +20,16 @@ pub(crate) enum Job {
 fn command<'a>(alloc: Global) -> Result<Command<'a>, AllocError> {
     let dump = Arg::new(alloc, "dump")
         .long("dump")
-        .help("Writes no answers, but at the end the dump of what is stored")
+        .help("Write no answers, but a dump of all logs at the end")
         .action(ArgAction::SetTrue);
     let check = Arg::new(alloc, "check")
         .long("check")
-        .help("Checks that standard input is such a dump")
+        .help("Check that standard input is such a dump")
         .action(ArgAction::SetTrue)
         .conflicts_with("dump")?;
-    Command::new(alloc, "sdb_steps_program")
+    Command::new(alloc, "sdb_steps_main")
         .about(
-            "Answers lines on standard input, each a step of one of 64 sessions on JSON documents",
+            "Run the steps of up to 64 sessions on JSON documents, one per line of standard input",
         )
         .arg(dump)?
         .arg(check)

@@ -6,7 +6,7 @@ use std::alloc::Global;
 use std::test::Fail;
 
 // Returns the exit status of a command line that starts no run.
-fn ended(alloc: Global, terminal: &TerminalBuffer, words: &[String]) -> Option<u8> {
+fn status_without_job(alloc: Global, terminal: &TerminalBuffer, words: &[String]) -> Option<u8> {
     match parse_job(alloc, words) {
         Ok(_) => None,
         Err(error) => print_help_or_error(terminal, &error).ok(),
@@ -14,15 +14,15 @@ fn ended(alloc: Global, terminal: &TerminalBuffer, words: &[String]) -> Option<u
 }
 
 #[test]
-fn a_job_is_asked_for(rt: HostRuntime) -> Result<(), Fail> {
+fn each_job_is_parsed(rt: HostRuntime) -> Result<(), Fail> {
     for (line, job) in [
-        ("sdb_steps_program", Job::Run),
-        ("sdb_steps_program --dump", Job::Dump),
-        ("sdb_steps_program --check", Job::Check),
+        ("sdb_steps_main", Job::Run),
+        ("sdb_steps_main --dump", Job::Dump),
+        ("sdb_steps_main --check", Job::Check),
     ] {
-        let given = argument_list(rt.alloc(), line)?;
+        let words = argument_list(rt.alloc(), line)?;
         assert!(rt;
-            parse_job(rt.alloc(), given.as_slice()).ok() == Some(job),
+            parse_job(rt.alloc(), words.as_slice()).ok() == Some(job),
             "{line}"
         );
     }
@@ -31,9 +31,9 @@ fn a_job_is_asked_for(rt: HostRuntime) -> Result<(), Fail> {
 
 #[test]
 fn help_is_printed(rt: HostRuntime) -> Result<(), Fail> {
-    let given = argument_list(rt.alloc(), "sdb_steps_program --help")?;
+    let words = argument_list(rt.alloc(), "sdb_steps_main --help")?;
     let terminal = TerminalBuffer::new(rt.alloc());
-    assert!(rt; ended(rt.alloc(), &terminal, given.as_slice()) == Some(STATUS_OK));
+    assert!(rt; status_without_job(rt.alloc(), &terminal, words.as_slice()) == Some(STATUS_OK));
     assert!(rt; !terminal.out.into_inner().is_empty());
     assert!(rt; terminal.err.into_inner().is_empty());
     Ok(())
@@ -42,15 +42,15 @@ fn help_is_printed(rt: HostRuntime) -> Result<(), Fail> {
 #[test]
 fn a_refused_command_line_is_one_line_on_standard_error(rt: HostRuntime) -> Result<(), Fail> {
     for line in [
-        "sdb_steps_program --lines",
-        "sdb_steps_program more",
-        "sdb_steps_program --dump --check",
-        "sdb_steps_program -",
+        "sdb_steps_main --lines",
+        "sdb_steps_main more",
+        "sdb_steps_main --dump --check",
+        "sdb_steps_main -",
     ] {
-        let given = argument_list(rt.alloc(), line)?;
+        let words = argument_list(rt.alloc(), line)?;
         let terminal = TerminalBuffer::new(rt.alloc());
         assert!(rt;
-            ended(rt.alloc(), &terminal, given.as_slice()) == Some(STATUS_USAGE),
+            status_without_job(rt.alloc(), &terminal, words.as_slice()) == Some(STATUS_USAGE),
             "{line}"
         );
         assert!(rt; terminal.out.into_inner().is_empty(), "{line}");

@@ -150,8 +150,8 @@ pub fn transform_if_changed(
     if commute_unchanged(op.components(), other.components(), side) {
         return Ok(None);
     }
-    let carried = transform(alloc, op, other, side)?;
-    Ok(Some(carried))
+    let transformed = transform(alloc, op, other, side)?;
+    Ok(Some(transformed))
 }
 
 /// Transforms an owned operation as [`transform`] does. It is returned as it is if both are known
@@ -167,11 +167,11 @@ pub fn transform_owned(alloc: Global, op: Arc<Op>, other: &Op, side: Side) -> Re
     if commute_unchanged(op.components(), other.components(), side) {
         return Ok(op);
     }
-    let carried = match Arc::try_unwrap(op) {
+    let transformed = match Arc::try_unwrap(op) {
         Ok(op) => transform_owned_against(alloc, op, other, side)?,
         Err(op) => transform(alloc, &op, other, side)?,
     };
-    Ok(Arc::new(alloc, carried)?)
+    Ok(Arc::new(alloc, transformed)?)
 }
 
 // Transforms an owned operation. One made by `Op::one` isn't cloned.

@@ -27,8 +27,8 @@ at_version n = unwrap_or (document_of (take n log)) null
 
 -- the snapshots of these versions are offered in order
 abbrev offer : List ℕ → List Snapshot → List Snapshot
-offer [] kept = kept
-offer (n ∷ ns) kept = offer ns (insert_front n (at_version n) kept)
+offer [] cached = cached
+offer (n ∷ ns) cached = offer ns (insert_front n (at_version n) cached)
 
 abbrev versions : List Snapshot → List ℕ
 versions = map (λ s. s.version)

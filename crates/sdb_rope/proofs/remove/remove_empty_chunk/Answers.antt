@@ -14,9 +14,9 @@ pub returns-then-is_empty-clause-unchanged : goal.returns-then-is_empty-clause-u
 returns-then-is_empty-clause-unchanged c =
     let ps = c.args.chunks.now.items in
     let empty : chunk_text (chunk_list_texts ps) c.args.at ≡ [] = text_at ps c.args.at c.index.result.now c.requires c.index.ensures ∙ sym c.as_str.ensures ∙ nothing c.as_str.result.now c.is_empty.result c.is_empty.ensures c.if-is_empty.true in
-    ap (λ l. concat (chunk_list_texts l)) c.remove-gone.ensures.items ∙ empty_chunk_out ps c.args.at c.requires empty
+    ap (λ l. concat (chunk_list_texts l)) c.remove-removed_units.ensures.items ∙ empty_chunk_out ps c.args.at c.requires empty
 
 pub returns-then-is_empty-clause-chunks_bounded : goal.returns-then-is_empty-clause-chunks_bounded
 returns-then-is_empty-clause-chunks_bounded c =
     let ps = c.args.chunks.now.items in
-    λ a. rw c.remove-gone.ensures.items (short_append (take c.args.at ps) (drop (suc c.args.at) ps) (short_take ps c.args.at a) (short_drop ps (suc c.args.at) a))
+    λ a. rw c.remove-removed_units.ensures.items (short_append (take c.args.at ps) (drop (suc c.args.at) ps) (short_take ps c.args.at a) (short_drop ps (suc c.args.at) a))

@@ -7,5 +7,5 @@ use Rattle.sdb_server.proofs.accept_loop.listen_until_stopped.Given as goal
 abbrev pub invariant-loop : goal.invariant-loop
 invariant-loop g l =
     (goal.iterator-loop g).can_next l.iterator' × (goal.iterator-loop g).is_finite l.iterator'
-    × (l.reception.pass_count + next_pass_number l.fn.host ≡ next_pass_number l.host) × IsHostOfServer l.host l.state.value
-    × ThreadsOfBackend l.reception.sessions l.state.value.backend
+    × (l.acceptor.pass_count + next_pass_number l.fn.host ≡ next_pass_number l.host) × IsHostOfServer l.host l.state.value
+    × ThreadsOfBackend l.acceptor.sessions l.state.value.backend

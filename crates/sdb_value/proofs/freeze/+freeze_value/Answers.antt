@@ -108,8 +108,8 @@ freeze_each_item-loop-at-preserved t c =
 
 -- ---- the members of an object
 
-pub freeze_member_repr-returns-clause-members : goal.freeze_member_repr-returns-clause-members
-freeze_member_repr-returns-clause-members t c = same_member_repr c.freeze_unique_member_chunks.new.repr c.freeze.new.self c.freeze.ensures.unchanged ∙ c.freeze_unique_member_chunks.ensures
+pub freeze_member_repr-returns-clause-members_unchanged : goal.freeze_member_repr-returns-clause-members_unchanged
+freeze_member_repr-returns-clause-members_unchanged t c = same_member_repr c.freeze_unique_member_chunks.new.repr c.freeze.new.self c.freeze.ensures.unchanged ∙ c.freeze_unique_member_chunks.ensures
 
 pub freeze_unique_member_chunks-freeze_unique_member_groups-requires : goal.freeze_unique_member_chunks-freeze_unique_member_groups-requires
 freeze_unique_member_chunks-freeze_unique_member_groups-requires t c =

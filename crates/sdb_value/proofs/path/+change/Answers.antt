@@ -17,8 +17,8 @@ use Rattle.sdb_value.proofs.path.+change.Goals as goal
 
 -- ---- at an item
 
-pub change_at-returns-in-Some-list_mut-clause-done : goal.change_at-returns-in-Some-list_mut-clause-done
-change_at-returns-in-Some-list_mut-clause-done g t c =
+pub change_at-returns-in-Some-list_mut-clause-changed : goal.change_at-returns-in-Some-list_mut-clause-changed
+change_at-returns-in-Some-list_mut-clause-changed g t c =
     told_of c.change_item.result (λ r u v. g.C.Change.relation c.args.change u v r) _ _ _ _ _ _
     (eq_list_of_as_list (value_of c.args.value.now) (list_value c.in-Some-list_mut.items.now) c.in-Some-list_mut.ensures.value)
     (ap plain_path c.in-Some.ensures.cases.0 ∙ ap (λ s. plain_step s ∷ plain_path c.in-Some.rest.now) c.in-Index.is)
@@ -38,8 +38,8 @@ change_at-returns-in-Some-list_mut-clause-unique g t c keeps own =
 
 -- ---- at a member
 
-pub change_at-returns-in-Some-object_mut-clause-done : goal.change_at-returns-in-Some-object_mut-clause-done
-change_at-returns-in-Some-object_mut-clause-done g t c =
+pub change_at-returns-in-Some-object_mut-clause-changed : goal.change_at-returns-in-Some-object_mut-clause-changed
+change_at-returns-in-Some-object_mut-clause-changed g t c =
     told_of c.change_member.result (λ r u v. g.C.Change.relation c.args.change u v r) _ _ _ _ _ _
     (eq_object_of_as_object (value_of c.args.value.now) (object_value c.in-Some-object_mut.members.now) c.in-Some-object_mut.ensures.value)
     (ap plain_path c.in-Some.ensures.cases.0 ∙ ap (λ s. plain_step s ∷ plain_path c.in-Some.rest.now) c.in-Key.is
@@ -64,8 +64,8 @@ pub change_item-returns-in_err-item-clause-shared_on_err : goal.change_item-retu
 change_item-returns-in_err-item-clause-shared_on_err g t c =
     on_any_err c.from_residual.result (shared_place c.args.items.now c.args.number c.in_err-item.ensures.shared_on_err)
 
-pub change_item-returns-clause-done : goal.change_item-returns-clause-done
-change_item-returns-clause-done g t c =
+pub change_item-returns-clause-changed : goal.change_item-returns-clause-changed
+change_item-returns-clause-changed g t c =
     let ds = list_value c.args.items.now in
     let new = value_of c.change_at-done.new.value in
     list_view c.change_at-done.result (λ r u v. g.C.Change.relation c.args.change u v r) ds _ c.args.number _ (value_of c.in-Some.item) new
@@ -88,8 +88,8 @@ pub change_value-returns-in_err-member-clause-shared_on_err : goal.change_value-
 change_value-returns-in_err-member-clause-shared_on_err g t c =
     on_any_err c.from_residual.result (shared_member c.args.entries.now c.args.number c.in_err-member.ensures.shared_on_err)
 
-pub change_value-returns-clause-done : goal.change_value-returns-clause-done
-change_value-returns-clause-done g t c =
+pub change_value-returns-clause-changed : goal.change_value-returns-clause-changed
+change_value-returns-clause-changed g t c =
     let ds = values_of_entries c.args.entries.now in
     let new = value_of c.change_at-done.new.value in
     list_view c.change_at-done.result (λ r u v. g.C.Change.relation c.args.change u v r) ds _ c.args.number _ (value_of c.in-Some.member.value) new
@@ -120,8 +120,8 @@ change_member-from_entries-requires-clause-bound g t c = subst (λ ts. length ts
 pub change_member-from_entries-requires-clause-ascending : goal.change_member-from_entries-requires-clause-ascending
 change_member-from_entries-requires-clause-ascending g t c = subst IsAscending (sym c.change_value-done.ensures.names) c.into_chunks-entries.ensures.ascending
 
-pub change_member-returns-in-Ok-clause-done : goal.change_member-returns-in-Ok-clause-done
-change_member-returns-in-Ok-clause-done g t c =
+pub change_member-returns-in-Ok-clause-changed : goal.change_member-returns-in-Ok-clause-changed
+change_member-returns-in-Ok-clause-changed g t c =
     view_members c.change_value-done.result (λ r u v. g.C.Change.relation c.args.change u v r) c.args.name.now c.in-Ok.index (plain_path c.args.rest.now) c.args.members.now c.from_entries.result
     c.into_chunks-entries.result c.change_value-done.new.entries (c.into_chunks-entries.ensures.equal ∙ ap map_chunks c.replace.ensures.value) c.from_entries.ensures
     c.change_value-done.ensures.names c.in-Ok.ensures.found c.change_value-done.ensures.done
@@ -148,5 +148,5 @@ change_member-returns-in-Ok-clause-result_unique g t c own =
     let same = c.into_chunks-entries.ensures.equal ∙ ap map_chunks c.replace.ensures.value in
     c.change_value-done.ensures.result_unique (ap entries_unique same ∙ own)
 
-pub change_member-returns-in-Err-clause-done : goal.change_member-returns-in-Err-clause-done
-change_member-returns-in-Err-clause-done g t c = key_missing c.args.members.now c.args.name.now c.in-Err.field-0 (plain_path c.args.rest.now) c.in-Err.ensures.insert_index
+pub change_member-returns-in-Err-clause-changed : goal.change_member-returns-in-Err-clause-changed
+change_member-returns-in-Err-clause-changed g t c = key_missing c.args.members.now c.args.name.now c.in-Err.field-0 (plain_path c.args.rest.now) c.in-Err.ensures.insert_index

@@ -16,19 +16,19 @@ use Rattle.sdb_backend.proofs.backend.Backend.snapshot_of.Goals as goal
 pub run-requires-2-clause-ready : goal.run-requires-2-clause-ready
 run-requires-2-clause-ready g c =
     λ x w saw ext same.
-    let d = c.in_ok-lent.ensures.ran in
+    let d = c.in_ok-replay_start.ensures.ran in
     let k = plain_key c.args.key.now in
     let v = c.args.version in
     let s = option_map value_of c.in_ok-snapshot.snapshot in
     let one : d.2 ≡ x = have_seen_unique c.run.new.pass.seats (shard_of k) d.2 x d.7 saw in
-    let at : IsDocumentAt (logs_of d.1.shard k) v s = borrowed_at (logs_of d.1.shard k) v (plain_replay_base c.in_ok-lent.lent) s d.6.0 c.in_ok-snapshot.ensures.ok in
+    let at : IsDocumentAt (logs_of d.1.shard k) v s = borrowed_at (logs_of d.1.shard k) v (plain_replay_base c.in_ok-replay_start.replay_start) s d.6.0 c.in_ok-snapshot.ensures.ok in
     let left : IsDocumentAt (logs_of d.2.shard k) v s = subst (λ (f : Logs). IsDocumentAt (f k) v s) (sym d.6.1.0) at in
     let seen : IsDocumentAt (logs_of x.shard k) v s = subst (λ (y : Held). IsDocumentAt (logs_of y.shard k) v s) one left in
     at_later (logs_of x.shard k) (logs_of w.shard k) v s (ext.logs k) seen
 
 pub returns-clause-answered : goal.returns-clause-answered
 returns-clause-answered g c =
-    let d = c.in_ok-lent.ensures.ran in
+    let d = c.in_ok-replay_start.ensures.ran in
     let e = c.run-2.ensures.ran in
     let k = plain_key c.args.key.now in
     let v = c.args.version in

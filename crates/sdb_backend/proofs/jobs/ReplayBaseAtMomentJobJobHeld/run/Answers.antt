@@ -5,15 +5,15 @@ use Rattle.sdb_backend.proofs.HistoryGrowth.{same_grown}
 use Rattle.sdb_backend.proofs.ReplayLemmas.{out_of_memory_borrowed}
 use Rattle.sdb_backend.proofs.jobs.ReplayBaseAtMomentJobJobHeld.run.Goals as goal
 
-pub returns-in_err-lent-clause-extends : goal.returns-in_err-lent-clause-extends
-returns-in_err-lent-clause-extends c =
+pub returns-in_err-replay_start-clause-extends : goal.returns-in_err-replay_start-clause-extends
+returns-in_err-replay_start-clause-extends c =
     (same_grown c.args._number (machine_of c.args.held.now.shard) (machine_of c.replay_base.new.self) (c.replay_base.ensures.logs_unchanged, c.replay_base.ensures.queues_unchanged)).extends
 
-pub returns-in_err-lent-clause-postcondition : goal.returns-in_err-lent-clause-postcondition
-returns-in_err-lent-clause-postcondition c =
+pub returns-in_err-replay_start-clause-postcondition : goal.returns-in_err-replay_start-clause-postcondition
+returns-in_err-replay_start-clause-postcondition c =
     let log = logs_of c.args.held.now.shard (plain_key c.args.self.key.now) in
     let p = err_from_is_err_and c.from_residual.result c.from_residual.ensures.1 in
-    rw (p.1, p.2) (out_of_memory_borrowed log c.version_at-version.result c.args.self.moment c.in_err-lent.field-0.0 c.version_at-version.ensures c.in_err-lent.ensures.err, (c.replay_base.ensures.logs_unchanged, c.replay_base.ensures.queues_unchanged))
+    rw (p.1, p.2) (out_of_memory_borrowed log c.version_at-version.result c.args.self.moment c.in_err-replay_start.field-0.0 c.version_at-version.ensures c.in_err-replay_start.ensures.err, (c.replay_base.ensures.logs_unchanged, c.replay_base.ensures.queues_unchanged))
 
 pub returns-clause-extends : goal.returns-clause-extends
 returns-clause-extends c =

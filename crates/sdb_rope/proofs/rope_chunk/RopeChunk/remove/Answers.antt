@@ -13,13 +13,13 @@ range-requires-clause-end_boundary c =
 pub overflow_sub-self : goal.overflow_sub-self
 overflow_sub-self c =
     let old = c.args.self.now in
-    let gone : c.units-gone.result ≡ units (take (c.args.to - c.args.from) (drop c.args.from (str_bytes old.text))) = c.units-gone.ensures.value ∙ ap units c.range.ensures.value ∙ ap (λ l. units (take (c.args.to - c.args.from) (drop c.args.from l))) c.as_str.ensures in
-    omega (arith, gone, units_removed (str_bytes old.text) c.args.from c.args.to c.requires.ordered, old.utf16_len_is_units)
+    let removed_units : c.units-removed_units.result ≡ units (take (c.args.to - c.args.from) (drop c.args.from (str_bytes old.text))) = c.units-removed_units.ensures.value ∙ ap units c.range.ensures.value ∙ ap (λ l. units (take (c.args.to - c.args.from) (drop c.args.from l))) c.as_str.ensures in
+    omega (arith, removed_units, units_removed (str_bytes old.text) c.args.from c.args.to c.requires.ordered, old.utf16_len_is_units)
 
 pub invariant_of-self : goal.invariant_of-self
 invariant_of-self c =
     let old = c.args.self.now in
-    let gone : c.units-gone.result ≡ units (take (c.args.to - c.args.from) (drop c.args.from (str_bytes old.text))) = c.units-gone.ensures.value ∙ ap units c.range.ensures.value ∙ ap (λ l. units (take (c.args.to - c.args.from) (drop c.args.from l))) c.as_str.ensures in
+    let removed_units : c.units-removed_units.result ≡ units (take (c.args.to - c.args.from) (drop c.args.from (str_bytes old.text))) = c.units-removed_units.ensures.value ∙ ap units c.range.ensures.value ∙ ap (λ l. units (take (c.args.to - c.args.from) (drop c.args.from l))) c.as_str.ensures in
     let new = c.remove.new.self in
-    let left : old.units - c.units-gone.result ≡ units (str_bytes new) = omega (arith, gone, ap units c.remove.ensures.bytes, units_removed (str_bytes old.text) c.args.from c.args.to c.requires.ordered, old.utf16_len_is_units) in
+    let left : old.units - c.units-removed_units.result ≡ units (str_bytes new) = omega (arith, removed_units, ap units c.remove.ensures.bytes, units_removed (str_bytes old.text) c.args.from c.args.to c.requires.ordered, old.utf16_len_is_units) in
     record { utf16_len_is_units = left }

@@ -29,8 +29,8 @@ pub returns-then-not-start-clause-sessions : goal.returns-then-not-start-clause-
 returns-then-not-start-clause-sessions g c =
     let b = c.args.state.now.value.backend in
     let before = c.new_pass.ensures.sessions b (c.slot_for.ensures.backend b c.requires.sessions) in
-    let theirs = subst (λ s. ThreadsOfBackend c.new_pass.new.self.sessions s.backend) (sym c.in_ok-thread_slot.ensures.state) before in
-    subst (λ s. ThreadsOfBackend c.start.new.self s.backend) c.in_ok-thread_slot.ensures.state (c.start.ensures.backend theirs)
+    let shared_state = subst (λ s. ThreadsOfBackend c.new_pass.new.self.sessions s.backend) (sym c.in_ok-thread_slot.ensures.state) before in
+    subst (λ s. ThreadsOfBackend c.start.new.self s.backend) c.in_ok-thread_slot.ensures.state (c.start.ensures.backend shared_state)
 
 pub returns-else-not-start-clause-host : goal.returns-else-not-start-clause-host
 returns-else-not-start-clause-host g c = subst (λ s. IsHostOfServer c.new_pass.new.host s) c.deref.ensures c.new_pass.ensures.host
@@ -39,5 +39,5 @@ pub returns-else-not-start-clause-sessions : goal.returns-else-not-start-clause-
 returns-else-not-start-clause-sessions g c =
     let b = c.args.state.now.value.backend in
     let before = c.new_pass.ensures.sessions b (c.slot_for.ensures.backend b c.requires.sessions) in
-    let theirs = subst (λ s. ThreadsOfBackend c.new_pass.new.self.sessions s.backend) (sym c.in_ok-thread_slot.ensures.state) before in
-    subst (λ s. ThreadsOfBackend c.start.new.self s.backend) c.in_ok-thread_slot.ensures.state (c.start.ensures.backend theirs)
+    let shared_state = subst (λ s. ThreadsOfBackend c.new_pass.new.self.sessions s.backend) (sym c.in_ok-thread_slot.ensures.state) before in
+    subst (λ s. ThreadsOfBackend c.start.new.self s.backend) c.in_ok-thread_slot.ensures.state (c.start.ensures.backend shared_state)
