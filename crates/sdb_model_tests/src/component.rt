@@ -98,7 +98,7 @@ fn into_one_returns_the_only_component(rt: HostRuntime) {
     );
 }
 
-// Rows of an operation of one component, and of another operation that takes its path.
+// Rows of an operation of one component, and of another operation whose path is interned.
 const INTERNED_PATHS: &str = r#"[
   [[{"na":1,"p":["a",0]}], [{"na":2,"p":["a",0]}]],
   [[{"na":1,"p":["a",0]}], [{"na":2,"p":["a",1]}]],

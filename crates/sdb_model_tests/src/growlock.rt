@@ -79,7 +79,7 @@ fn two_threads_add_all_their_numbers(rt: HostRuntime) {
     let alloc = rt.alloc();
     let numbers = Vec::new(alloc);
     let Ok((lock, mut first)) = GrowLock::new(alloc, Tally { numbers }) else {
-        panic!(rt; "no memory");
+        panic!(rt; "out of memory");
     };
     let (Ok(one), Ok(two)) = (lock.split(&mut first), lock.split(&mut first)) else {
         panic!(rt; "no seat");

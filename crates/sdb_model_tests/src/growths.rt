@@ -248,7 +248,7 @@ fn padded_key(rt: &impl Abort, alloc: Global, number: u64) -> String {
     key
 }
 
-// Returns frozen members with so many keys that they are in groups.
+// Returns a frozen map with so many keys that its chunks are grouped.
 fn frozen_map(rt: &impl Abort, alloc: Global) -> SortedMap<Number> {
     let mut map = SortedMap::new(alloc);
     for number in 0..2_000 {

@@ -1,6 +1,6 @@
-//! Tests of the public functions of the libraries up to `sdb_oplog`, of snapshots, queues, lines,
-//! the lock and command lines, one module for each library. They are a separate crate so that no
-//! library is proved again for its tests.
+//! Tests of the public functions of the libraries up to `sdb_oplog`, of the snapshot cache, queues,
+//! lines, the lock and command lines, one module for each library. `growths` tests allocation
+//! failures. They are a separate crate so that no library is proved again for its tests.
 #![tactic(auto)]
 
 #[cfg(test)]

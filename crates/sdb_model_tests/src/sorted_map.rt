@@ -41,7 +41,7 @@ fn remove_from_both(
     value.map(|number| number.0) == plain.remove(key.as_str())
 }
 
-// Returns whether both maps have equal members in equal order.
+// Returns whether both maps have equal entries in equal order.
 fn is_equal(map: &SortedMap<Number>, plain: &BTreeMap<String, u64>) -> bool {
     let mut others = plain.iter();
     for (key, value) in map.iter() {
@@ -79,7 +79,7 @@ fn remove_all(
     }
 }
 
-// Freezes the members; if they are many, they are then in groups.
+// Freezes the map. The chunks of a large map are then grouped.
 pub(crate) fn freeze_map(
     rt: &impl Abort,
     alloc: Global,
@@ -93,7 +93,7 @@ pub(crate) fn freeze_map(
 // Returns a shared clone, so that a change of one of the maps copies on write.
 pub(crate) fn clone_frozen_map(rt: &impl Abort, map: &SortedMap<Number>) -> SortedMap<Number> {
     let clone = map.clone_shared().expect(rt, "out of memory");
-    clone.expect(rt, "shared members")
+    clone.expect(rt, "a frozen map")
 }
 
 // Rebuilds the map from the vector of its entries.
@@ -145,7 +145,7 @@ fn a_map_from_a_btree_map_has_its_entries(rt: HostRuntime) {
     );
 }
 
-// Returns two members with the keys "a" and "c".
+// Returns a map with the keys "a" and "c".
 fn two_entries(rt: &impl Abort, alloc: Global) -> SortedMap<Number> {
     let mut map = SortedMap::new(alloc);
     for (key, number) in [("c", 3), ("a", 1)] {

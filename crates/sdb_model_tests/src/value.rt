@@ -503,7 +503,7 @@ fn an_object_is_rebuilt_from_its_members(rt: HostRuntime) {
     let members = object.members().expect(&rt, "an object");
     assert!(rt; members.get("a").expect(&rt, "a member").is_null() && !object.is_null());
     let clone = members.clone_shared().expect(&rt, "out of memory");
-    let mut clone = clone.expect(&rt, "shared members");
+    let mut clone = clone.expect(&rt, "a frozen object");
     insert_member(&rt, rt.alloc(), &mut clone, "a", Json::Null);
     assert!(rt; values_equal(&object, &Json::from_members(clone)));
 }

@@ -76,7 +76,7 @@ fn insert_in_chunk(
         return Ok(done);
     }
     let fresh = split_chunks_with(alloc, chunks[at].as_str(), byte, new)?;
-    let _gone = chunks.splice(at..at + 1, fresh)?;
+    let _removed_units = chunks.splice(at..at + 1, fresh)?;
     Ok(())
 }
 

@@ -112,6 +112,6 @@ fn remove_empty_chunk(chunks: &mut Vec<RopeChunk>, at: usize)
         → AreBounded (chunk_list_texts chunks.new.items) }
 {
     if chunks[at].as_str().is_empty() {
-        let _gone = chunks.remove(at);
+        let _removed_units = chunks.remove(at);
     }
 }

@@ -35,7 +35,7 @@ returns-then-as_str-new-le-MAX_CHUNK_LEN-clause-ok c =
 pub returns-clause-ok : goal.returns-clause-ok
 returns-clause-ok c =
     let ps = c.args.chunks.now.items in
-    let it = c.in_ok-_gone.ensures.items in
+    let it = c.in_ok-_removed_units.ensures.items in
     let fresh = c.in_ok-fresh.fresh in
     let all : it.1 ≡ fresh.items = sym (map-id it.1) ∙ items_from_drains it.1 (if_drains (into_iter_steps {X = RopeChunk} {Z = Global}) it.0 it.1 it.3) (YieldsList-from_vec {s = it.0} fresh.items it.2.0 (it.2.1 ∙ fresh.ok.0)) in
     let whole : concat (chunk_list_texts fresh.items) ≡ insert_slice (chunk_bytes c.index-2.result.now) c.args.byte c.args.new.now = c.in_ok-fresh.ensures.ok ∙ ap (λ l. insert_slice l c.args.byte c.args.new.now) c.as_str-2.ensures in
@@ -46,7 +46,7 @@ returns-clause-ok c =
 pub returns-clause-unique : goal.returns-clause-unique
 returns-clause-unique c =
     let ps = c.args.chunks.now.items in
-    let it = c.in_ok-_gone.ensures.items in
+    let it = c.in_ok-_removed_units.ensures.items in
     let fresh = c.in_ok-fresh.fresh in
     let all : it.1 ≡ fresh.items = sym (map-id it.1) ∙ items_from_drains it.1 (if_drains (into_iter_steps {X = RopeChunk} {Z = Global}) it.0 it.1 it.3) (YieldsList-from_vec {s = it.0} fresh.items it.2.0 (it.2.1 ∙ fresh.ok.0)) in
     let new = it.4 ∙ ap (splice ps c.args.at (c.args.at + 1)) all in
@@ -70,7 +70,7 @@ returns-then-as_str-new-le-MAX_CHUNK_LEN-clause-chunks_bounded c =
 pub returns-clause-chunks_bounded : goal.returns-clause-chunks_bounded
 returns-clause-chunks_bounded c =
     let ps = c.args.chunks.now.items in
-    let it = c.in_ok-_gone.ensures.items in
+    let it = c.in_ok-_removed_units.ensures.items in
     let fresh = c.in_ok-fresh.fresh in
     let all : it.1 ≡ fresh.items = sym (map-id it.1) ∙ items_from_drains it.1 (if_drains (into_iter_steps {X = RopeChunk} {Z = Global}) it.0 it.1 it.3) (YieldsList-from_vec {s = it.0} fresh.items it.2.0 (it.2.1 ∙ fresh.ok.0)) in
     let new = it.4 ∙ ap (splice ps c.args.at (c.args.at + 1)) all in
