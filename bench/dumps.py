@@ -44,7 +44,7 @@ def write_steps(path, lines):
 
 
 def run(command, path, out):
-    """Returns the processor seconds, and the maximal memory in kilobytes."""
+    """Returns the processor seconds, and the maximum memory in kilobytes."""
     with open(path, "rb") as lines, open(out, "wb") as written:
         process = subprocess.Popen(command, stdin=lines, stdout=written)
         _, status, usage = os.wait4(process.pid, 0)

@@ -46,7 +46,7 @@ def compare(title, script, lines, *more):
     print(f"  server: {server:.3f} s, {server / lines * 1e6:.2f} microseconds each line; ratio {server / plain:.2f}")
 
 
-# Returns the server's best time over a script's output in seconds, and its maximal memory in bytes.
+# Returns the server's best time over a script's output in seconds, and its maximum memory in bytes.
 def server_over(runs, script, *counts):
     with tempfile.NamedTemporaryFile("w", suffix=".lines") as made:
         subprocess.run([sys.executable, os.path.join(HERE, script), *map(str, counts)], stdout=made, check=True)

@@ -1,5 +1,5 @@
 """Writes increments of one number, and reads by version: snapshots.py ENTRIES READS BACK. Each read is at a random version of the
-last BACK ones (0: the present one)."""
+last BACK ones (0: the current one)."""
 import json
 import random
 import sys

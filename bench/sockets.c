@@ -202,7 +202,7 @@ static void open_session(Client *client) {
     await_text(client, "{\"a\":\"hs\"");
 }
 
-// Returns the document's number; the client has then seen its present version.
+// Returns the document's number; the client has then seen its current version.
 static unsigned long long fetch(Client *client) {
     SEND(client, "{\"a\":\"f\",\"c\":\"b\",\"d\":\"%s\"}", client->document);
     Text text = await_text(client, "{\"a\":\"f\"");

@@ -350,7 +350,7 @@ class Life {
     }
   }
 
-  // No answer contains a time, so that of the first operation is found by halving.
+  // No answer contains a time, so that of the first operation is found by binary search.
   async begin() {
     if ((await this.at(null)).version === 0) return;
     let [low, high] = [0, Date.now() + CLOCKS_APART];

@@ -24,9 +24,9 @@ SERVER = [os.path.join(CRATES, "sdb_server_main", "out", "sdb_server_main"), "--
 STEPS = [os.path.join(CRATES, "sdb_steps_main", "out", "sdb_steps_main")]
 TESTS = [os.path.join(CRATES, crate, "out", f"{crate}_tests") for crate in ("sdb_model_tests", "sdb_service_tests")]
 FAULT = b"fault: memory\n"
-WANTING = (b"ERR_OUT_OF_MEMORY", b'{"error":"E10"}')
+OUT_OF_MEMORY = (b"ERR_OUT_OF_MEMORY", b'{"error":"E10"}')
 # how a test ends if an allocation around its call fails
-AROUND = ("AllocError", "AllocFailed", "error: Memory", "out of memory", '"no fetch"', '"no queue"', '"no work"', '"not stored"')
+AROUND = ("out of memory", "OutOfMemory", "AllocError", "AllocFailed")
 
 
 def lines_of(script, count):
@@ -87,7 +87,7 @@ def ninth():
     return "".join(line + "\n" for line in lines).encode()
 
 
-class Refusals:
+class FailingRuns:
     """Runs of programs with one failed allocation."""
 
     def __init__(self, room):
@@ -109,40 +109,40 @@ def is_right(ended, whole, without_one, refusals):
     status, written = ended.returncode, ended.stdout
     if status == 0:
         lines = written.splitlines(keepends=True)
-        others = [line for line in lines if not any(wanting in line for wanting in WANTING)]
+        others = [line for line in lines if not any(code in line for code in OUT_OF_MEMORY)]
         return written == whole or (len(others) == len(lines) - refusals and b"".join(others) in without_one)
-    front = written[: -len(FAULT)] if written.endswith(FAULT) else written
-    told = written.endswith(FAULT) or written == b""
-    return status == 1 and told and whole.startswith(front) and front[-1:] in (b"", b"\n")
+    prefix = written[: -len(FAULT)] if written.endswith(FAULT) else written
+    is_ended = written.endswith(FAULT) or written == b""
+    return status == 1 and is_ended and whole.startswith(prefix) and prefix[-1:] in (b"", b"\n")
 
 
-def told(name, count, inside, wrong):
-    print(f"{name}: {count} allocations refused in turn, {inside} of them inside the call, {len(wrong)} went wrong {wrong[:10] or ''}", flush=True)
+def report(name, count, inside, wrong):
+    print(f"{name}: {count} allocations failed in turn, {inside} of them inside the call, {len(wrong)} went wrong {wrong[:10] or ''}", flush=True)
     return not wrong and inside > 0
 
 
-def program_is_right(refusals, name, program, given, told_refusals=1):
+def program_is_right(refusals, name, program, given, refusal_answers=1):
     whole = refusals.run(program, given)
     assert whole.returncode == 0, name
     count = refusals.counts()[0]
     lines = given.splitlines(keepends=True)
     # the answers to the input without one of its lines, for each line
     without_one = {refusals.run(program, b"".join(lines[:at] + lines[at + 1 :])).stdout for at in range(len(lines))}
-    wrong = [nth for nth in range(1, count + 1) if not is_right(refusals.run(program, given, nth), whole.stdout, without_one, told_refusals)]
-    return told(name, count, count, wrong)
+    wrong = [nth for nth in range(1, count + 1) if not is_right(refusals.run(program, given, nth), whole.stdout, without_one, refusal_answers)]
+    return report(name, count, count, wrong)
 
 
 def test_is_right(refusals, program, test):
     assert refusals.run([program, test]).returncode == 0, test
     count, inside, _ = refusals.counts()
     wrong = [nth for nth in range(1, count + 1) if not test_ends_well(refusals, program, test, nth)]
-    return told(test, count, inside, wrong)
+    return report(test, count, inside, wrong)
 
 
 def test_ends_well(refusals, program, test, nth):
     ended = refusals.run([program, test], nth=nth)
-    said, is_inside = ended.stderr.decode(), refusals.counts()[2] > 0
-    return ended.returncode == 0 or (not is_inside and "assertion" not in said and any(word in said for word in AROUND))
+    output, is_inside = ended.stderr.decode(), refusals.counts()[2] > 0
+    return ended.returncode == 0 or (not is_inside and "assertion" not in output and any(word in output for word in AROUND))
 
 
 def tests_of(program):
@@ -167,7 +167,7 @@ def main():
         ("check_dump, their dump", [*STEPS, "--check"], dump_of(INTERLEAVED)),
     ]
     with tempfile.TemporaryDirectory() as room:
-        refusals = Refusals(room)
+        refusals = FailingRuns(room)
         right = [program_is_right(refusals, *each) for each in runs]
         right += [test_is_right(refusals, program, test) for program in TESTS for test in tests_of(program)]
     return 0 if all(right) else 1

@@ -22,7 +22,7 @@ NAME = "python"
 PATIENCE = 120  # seconds without a message
 MOST_FAULTS = 5  # that are printed
 EVERY = 5  # one version in this number is compared at the end
-CARDS, TEXT = 8, 300  # maximal length of a column and of a text
+CARDS, TEXT = 8, 300  # maximum length of a column and of a text
 START = {"text": "", "columns": [{"name": name, "cards": []} for name in ("To do", "Doing", "Done")]}
 PIECES = ["a", "bc", "😀", "word ", "\n", "é", "漢字", "🎉🎉"]
 

@@ -53,7 +53,7 @@ under_then (Some v) p cs ds d u found strip_steps = strip_steps v ∙ map_same (
     map_same None f g same = refl
     map_same (Some x) f g same = ap Some (same x)
 
--- a list of components has it too
+-- a list of components inside a path has the effect that it has on the value there
 pub applies_under : (cs : List PlainComponent) (p : List PlainStep) (d u : Value) → value_at d p ≡ Some u → AllBelowPath p cs → apply cs d ≡ option_map (with_value_at d p) (apply (strip_steps (length p) cs) u)
 applies_under [] p d u found h = ap Some (sym (with_same p d u found))
 applies_under (c ∷ cs) p d u found h =

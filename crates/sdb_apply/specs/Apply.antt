@@ -5,7 +5,7 @@ use Rattle.sdb_rope.specs.Utf16.{insert_text, remove_text}
 use Rattle.sdb_value.specs.FromJson.{checked_whole}
 use Rattle.sdb_component.specs.Plain.{PlainAct, na, si, sd, li, ld, lr, oi, od, or, PlainComponent}
 
--- the required kind of value at the path, and its change
+-- a change of a value of the required kind; any other kind is refused
 abbrev pub map_number : (ℤ → Option ℤ) → Value → Option Value
 map_number f (whole n) = option_map whole (f n)
 map_number f _ = None
@@ -34,11 +34,11 @@ apply_act (oi k v) = map_object (put_member k v)
 apply_act (od k x) = map_object (without_member k)
 apply_act (or k x y) = map_object (put_member k y)
 
--- `Does`: the value with the one at the component's path replaced by the act's result
+-- the value with the one at the component's path replaced by the act's result
 abbrev pub apply_one : PlainComponent → Value → Option Value
 apply_one c d = option_and_then (λ u. option_map (with_value_at d c.path) (apply_act c.act u)) (value_at d c.path)
 
--- `Applies`: each component applied to the result of the one before
+-- each component applied to the result of the one before
 abbrev pub apply : List PlainComponent → Value → Option Value
 apply [] d = Some d
 apply (c ∷ cs) d = option_and_then (apply cs) (apply_one c d)

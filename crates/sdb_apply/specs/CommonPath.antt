@@ -7,7 +7,7 @@ use Rattle.sdb_component.specs.Plain.{PlainComponent}
 abbrev pub IsBelowPath : List PlainStep → PlainComponent → Type 0
 IsBelowPath p c = p ≡ take (length p) c.path
 
--- each component's path does
+-- each component's path begins with this one
 abbrev pub AllBelowPath : List PlainStep → List PlainComponent → Type 0
 AllBelowPath p [] = Unit {0}
 AllBelowPath p (c ∷ cs) = IsBelowPath p c × AllBelowPath p cs

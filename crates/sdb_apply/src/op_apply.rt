@@ -50,9 +50,11 @@ pub struct Refused {
 /// # Errors
 ///
 /// - [`ApplyFault::NotApplied`] if the path doesn't exist, the value there has another kind, an
-///   index or offset is out of range, an offset (in UTF-16 code units) is inside a surrogate pair,
-///   a deleted text differs, or a sum leaves the range from -9007199254740991 to 9007199254740991.
-/// - [`ApplyFault::OutOfMemory`] if an allocation fails. This needs an insert or a shared part.
+///   index or offset is out of range, or a deleted text differs. An offset counts UTF-16 code
+///   units, and may not be inside a surrogate pair. A sum may not leave the range from
+///   -9007199254740991 to 9007199254740991.
+/// - [`ApplyFault::OutOfMemory`] if an allocation fails. It allocates only for an insert or a
+///   shared part.
 ///
 /// The value is then unchanged.
 pub fn apply_one(alloc: Global, value: &mut Json, component: &Component) -> Result<(), ApplyFault>
@@ -98,6 +100,12 @@ fn apply_component(alloc: Global, value: &mut Json, component: &Component) -> Re
 ///
 /// [`Refused`] with the first component that [`apply_one`] refuses. The value is then the result of
 /// the components before it.
+///
+/// ```
+/// // `value` is 1, and `op` is [{"na":2,"p":[]}].
+/// apply(alloc, &mut value, &op)?;
+/// assert!(rt; matches!(&value, Json::Int(number) if number.get() == 3));
+/// ```
 pub fn apply(alloc: Global, value: &mut Json, op: &Op) -> Result<(), Refused>
     ensures applied { OnOk result (apply op.now (value_of value.old) ≡ Some (value_of value.new)) }
     ensures before { IfErr result (λ r. apply (take r.at op.now) (value_of value.old) ≡ Some (value_of value.new)) }

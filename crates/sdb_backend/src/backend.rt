@@ -26,6 +26,16 @@ use std::sync::Wait;
 /// A document store for many threads, with lock striping: a key's lock is that of its shard. Each
 /// call acquires one lock, makes one call of the shard and releases the lock. Transforming and
 /// applying run without a lock.
+///
+/// ```
+/// let (backend, mut host) = Backend::new(alloc, rt)?;
+/// let mut pass = backend.enter(&mut host)?;
+/// // `submission` was made by the pass: its `by` is `pass.number()`.
+/// let now = Moment::zero();
+/// let reply = submit(alloc, &backend, &mut pass, &key, &submission, now, &NoGate);
+/// assert!(rt; matches!(reply, Reply::Stored { v: 0, .. }));
+/// assert_eq!(rt; backend.fetch(&mut pass, &key)?.version, 1);
+/// ```
 #[derive(Drop)]
 pub struct Backend<R: Wait> {
     pub(crate) alloc: Global,
@@ -58,6 +68,12 @@ impl<R: Wait + Drop> Backend<R> {
     /// # Errors
     ///
     /// [`AllocError`] if an allocation fails.
+    ///
+    /// ```
+    /// let (backend, mut host) = Backend::new(alloc, rt)?;
+    /// let pass = backend.enter(&mut host)?;
+    /// assert_eq!(rt; pass.number(), 1);
+    /// ```
     pub fn new(alloc: Global, rt: R) -> Result<(Backend<R>, Host), AllocError>
         ensures host { IfOk result (λ made. IsHostOfBackend made.1 made.0) }
         ensures next { IfOk result (λ made. next_pass_number made.1 ≡ 1) }
@@ -73,6 +89,12 @@ impl<R: Wait + Drop> Backend<R> {
     ///
     /// [`Code::E11`] if 2^64 - 2 passes were created, [`Code::E10`] if an allocation fails. The
     /// host is then unchanged.
+    ///
+    /// ```
+    /// let first = backend.enter(&mut host)?;
+    /// let second = backend.enter(&mut host)?;
+    /// assert_eq!(rt; (first.number(), second.number()), (1, 2));
+    /// ```
     pub fn enter(&self, host: &mut Host) -> Result<Pass, Code>
         requires { IsHostOfBackend host.old self.now }
         ensures host { IsHostOfBackend host.new self.now }
@@ -92,14 +114,23 @@ impl<R: Wait + Drop> Backend<R> {
     }
 
     /// Closes the backend, given its host and all its passes, and returns the audit of its logs.
-    /// The audit extends what each pass has observed, and its entries are those that the passes
-    /// stored.
+    /// The audit extends the history that each pass has observed, and contains only entries that
+    /// the passes stored.
     ///
     /// # Errors
     ///
     /// [`CloseError::MissingPass`] if a pass is missing, [`CloseError::OutOfMemory`] if an
     /// allocation fails. [`CloseRefused`] returns all arguments unchanged, except for the order of
     /// the passes.
+    ///
+    /// ```
+    /// let mut passes = Vec::with_capacity(alloc, 1)?;
+    /// passes.push_reserved(pass);
+    /// match backend.close(host, passes) {
+    ///     Ok(audit) => assert_eq!(rt; audit.documents()?.len(), 0),
+    ///     Err(refused) => assert!(rt; refused.error == CloseError::OutOfMemory),
+    /// }
+    /// ```
     pub fn close(self, host: Host, mut passes: Vec<Pass>) -> Result<Audit, CloseRefused<R>>
         requires host { IsHostOfBackend host self }
         requires passes { ForEach (λ p. IsPassOfBackend p self) passes.items }

@@ -228,7 +228,7 @@ pub fn submit_is_atomic<R: Wait + Drop, G: Gate>(
     submit(alloc, backend, pass, key, submission, now, gate)
 }
 
-/// Returns the next entries of a queue, at most `max`, from where its last take ended. Returns
+/// Returns the next entries of a queue, at most `max`, from the end of its last take. Returns
 /// `None` if the pass has no open queue with this number.
 ///
 /// # Errors

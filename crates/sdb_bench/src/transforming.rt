@@ -7,7 +7,7 @@ use std::time::Instant;
 
 const CALLS: u64 = 1_000_000;
 
-// Transforms a component against the other one again and again, each time the last component of the
+// Transforms a component against the other one repeatedly, each time the last component of the
 // result.
 pub(crate) fn transform_repeatedly(rt: &HostRuntime) -> anyhow::Result<()> {
     let (_, mut ops) = read(rt)?;

@@ -6,15 +6,15 @@ use Rattle.sdb_chunks.specs.Chunks.{flatten_models, is_unique_at, max_chunk_leng
 use Rattle.sdb_chunks.specs.declared.chunk.Chunk.{Chunk}
 use Rattle.sdb_chunks.specs.declared.chunk_group.ChunkGroup.{ChunkGroup}
 
--- the list of its chunks, unique or shared
+-- a group's list of chunks, unique or shared
 abbrev pub group_chunk_list : {X : Type 0} → ChunkGroup X → Chunk (Chunk X)
 group_chunk_list g = g.chunks
 
--- its chunks
+-- a group's chunks
 abbrev pub group_chunks : {X : Type 0} → ChunkGroup X → List (Chunk X)
 group_chunks g = items_of (group_chunk_list g)
 
--- the views f of its items
+-- the views f of a group's items
 abbrev pub group_models : {X S : Type 0} → (X → S) → ChunkGroup X → List S
 group_models f g = flatten_models f (group_chunks g)
 
@@ -26,7 +26,7 @@ flatten_group_models f gs = flat_map (group_models f) gs
 abbrev pub is_unique_group_at : {X : Type 0} → ChunkGroup X → ℕ → Bool
 is_unique_group_at g i = cond (is_chunk_unique (group_chunk_list g)) (is_unique_at (group_chunks g) i) false
 
--- those of item i's group are unique, or there is no such item
+-- the list of chunks of item i's group and the item's chunk are unique, or there is no such item
 abbrev pub is_unique_in_groups_at : {X : Type 0} → List (ChunkGroup X) → ℕ → Bool
 is_unique_in_groups_at [] i = true
 is_unique_in_groups_at (g ∷ gs) i = if nat_lt i g.count then is_unique_group_at g i else is_unique_in_groups_at gs (i - g.count)

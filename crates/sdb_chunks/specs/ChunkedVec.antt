@@ -58,7 +58,7 @@ is_shared_repr (Groups gs) = is_chunk_shared gs
 abbrev pub is_shared_vec : {X : Type 0} → ChunkedVec X → Bool
 is_shared_vec l = is_shared_repr l.repr
 
--- its chunks
+-- a list's chunks
 abbrev pub repr_chunks : {X : Type 0} → Repr X → List (Chunk X)
 repr_chunks (Flat b) = b ∷ []
 repr_chunks (Chunks bs) = items_of bs
@@ -71,6 +71,6 @@ vec_chunks l = repr_chunks l.repr
 abbrev pub vec_chunk_items : {X : Type 0} → ChunkedVec X → List (List X)
 vec_chunk_items l = map items_of (vec_chunks l)
 
--- its items
+-- a list's items
 abbrev pub vec_items : {X : Type 0} → ChunkedVec X → List X
 vec_items l = flat_map items_of (vec_chunks l)

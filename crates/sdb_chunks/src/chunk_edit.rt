@@ -15,14 +15,14 @@ use crate::chunk::{Chunk, TryClone};
 use std::alloc::{AllocError, Global};
 use std::mem::replace;
 
-// Maximal length of a chunk in a short list, and in a long one. The first is also the maximal
+// Maximum length of a chunk in a short list, and in a long one. The first is also the maximum
 // number of chunks of a frozen list without groups.
 pub(crate) const MIN_CHUNK_LEN: usize = 20;
 
 const MAX_CHUNK_LEN: usize = 512;
 
-// Returns the maximal length of a chunk in a list of this many chunks: the same number within
-// bounds. A change of shared parts then copies about as many chunks as items of one chunk.
+// Returns the maximum length of a chunk in a list of this many chunks: that number, but at least 20
+// and at most 512. A change of shared parts then copies about as many chunks as items of one chunk.
 pub(crate) fn max_chunk_len(chunks: usize) -> usize
     ensures lower_bound { 20 ≤ result }
     ensures upper_bound { result ≤ 512 }
@@ -30,7 +30,7 @@ pub(crate) fn max_chunk_len(chunks: usize) -> usize
     chunks.clamp(MIN_CHUNK_LEN, MAX_CHUNK_LEN)
 }
 
-// Returns the maximal length of a chunk for a list of this many items.
+// Returns the maximum length of a chunk for a list of this many items.
 pub(crate) fn max_chunk_len_for(items: usize) -> usize
     ensures some { 0 < result }
     ensures upper_bound { result ≤ 512 }
@@ -234,7 +234,7 @@ fn insert_in_chunk<T: TryClone>(
     }
 }
 
-// Inserts an item, after splitting a chunk of maximal length.
+// Inserts an item, after splitting a chunk of maximum length.
 pub(crate) fn insert_in_chunks<T: TryClone>(
     alloc: Global,
     chunks: &mut Vec<Chunk<T>>,

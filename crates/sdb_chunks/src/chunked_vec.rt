@@ -32,6 +32,13 @@ use std::sync::Arc;
 
 /// A list: one chunk if it is short, else chunks of bounded length. Each chunk is unique or shared
 /// with clones.
+///
+/// ```
+/// // `Number` implements `TryClone`.
+/// let mut list = ChunkedVec::from_vec(Vec::new(alloc));
+/// assert!(rt; list.insert(alloc, 0, Number(7))?);
+/// assert!(rt; list.get(0).map(|item| item.0) == Some(7) && list.get(1).is_none());
+/// ```
 #[derive(Drop)]
 pub struct ChunkedVec<T> {
     repr: Repr<T>,
@@ -269,7 +276,7 @@ impl<T: TryClone> ChunkedVec<T> {
         }
     }
 
-    // Returns the maximal length of a chunk.
+    // Returns the maximum length of a chunk.
     fn max_chunk_len(&self) -> usize
         ensures lower_bound { 20 ≤ result }
         ensures upper_bound { result ≤ 512 }
@@ -280,7 +287,7 @@ impl<T: TryClone> ChunkedVec<T> {
         }
     }
 
-    // Turns a single chunk of maximal length into a list of chunks.
+    // Turns a single chunk of maximum length into a list of chunks.
     fn reserve_for_insert(&mut self, alloc: Global, most: usize) -> Result<(), AllocError>
         ensures unchanged { vec_models T.model self.new ≡ vec_models T.model self.old }
         ensures unique { is_unique_vec self.old ≡ true → is_unique_vec self.new ≡ true }
@@ -297,8 +304,9 @@ impl<T: TryClone> ChunkedVec<T> {
     }
 
     /// Inserts an item at an index from 0 to the length. Returns `false`, with the list unchanged,
-    /// if the index is greater. A chunk with as many items as the list has chunks (20 in groups),
-    /// but at least 20, is split first, as is a group with as many chunks as there are groups.
+    /// if the index is greater. It first splits a full chunk: one with as many items as the list
+    /// has chunks, but at least 20 (20 in groups). It also splits a group with as many chunks as
+    /// there are groups.
     ///
     /// # Errors
     ///

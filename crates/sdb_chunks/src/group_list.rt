@@ -153,7 +153,7 @@ fn insert_in_group_at<T: TryClone>(
     }
 }
 
-// Inserts an item, after splitting a group of maximal length.
+// Inserts an item, after splitting a group of maximum length.
 fn insert_in_groups<T: TryClone>(
     alloc: Global,
     groups: &mut Vec<ChunkGroup<T>>,

@@ -12,9 +12,9 @@ use crate::chunk_group::ChunkGroup;
 /// An iterator over the chunks of a list.
 #[derive(Drop)]
 pub struct Chunks<'a, T> {
-    // the rest of the current group
+    // The rest of the current group.
     chunks: &'a [Chunk<T>],
-    // the groups after it
+    // The groups after it.
     groups: &'a [ChunkGroup<T>],
 }
 
@@ -49,9 +49,9 @@ impl<'a, T> Iterator for Chunks<'a, T> {
 /// An iterator over the items of a list.
 #[derive(Drop)]
 pub struct Iter<'a, T> {
-    // the rest of the current chunk
+    // The rest of the current chunk.
     items: &'a [T],
-    // the chunks after it
+    // The chunks after it.
     chunks: Chunks<'a, T>,
 }
 

@@ -65,6 +65,13 @@ impl Act {
 }
 
 /// A change at one path.
+///
+/// ```
+/// // Adds 1 to the number at the root.
+/// let path = Path::new(alloc, Vec::new(alloc))?;
+/// let component = Component::new(path, Act::Na(one));
+/// assert_eq!(rt; component.weight(), 1);
+/// ```
 pub struct Component {
     path: Path,
     act: Act,
@@ -136,7 +143,7 @@ impl Component {
         (path, act)
     }
 
-    /// Returns the component, with this path shared if it equals its own.
+    /// Returns the component, with this path in place of its own if both are equal.
     ///
     /// # Errors
     ///

@@ -15,6 +15,12 @@ pub(crate) enum Components {
 }
 
 /// An operation: components that are applied in order.
+///
+/// ```
+/// let value = Value::from_str(alloc, r#"[{"p":["n"],"na":1}]"#)?;
+/// let op = read_op(alloc, &value)?;
+/// assert_eq!(rt; (op.components().len(), weight(&op)), (1, 1));
+/// ```
 #[derive(Drop)]
 pub struct Op {
     components: Components,

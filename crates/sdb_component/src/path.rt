@@ -12,6 +12,13 @@ use std::marker::Model;
 use std::sync::Arc;
 
 /// The steps from a document to a component's container. Clones share them.
+///
+/// ```
+/// let mut steps = Vec::new(alloc);
+/// steps.push(Step::Key(String::from_str(alloc, "votes")?))?;
+/// let path = Path::new(alloc, steps)?;
+/// assert_eq!(rt; path.steps().len(), 1);
+/// ```
 #[derive(Drop)]
 pub struct Path {
     steps: Arc<Vec<Step>>,

@@ -10,7 +10,7 @@ use Rattle.sdb_subscribe.specs.Queue.{PlainQueues, open_queue}
 use Rattle.sdb_value.specs.Value.{Value}
 use Rattle.sdb_desk.specs.Machine.{PlainFetchResult, queue_start, subscribe_opened, subscribe_step, subscribe_from_start, fetch_result, read_has_document, ReadOrOutOfMemory, SubscribesOrOutOfMemory}
 
--- the answer is due, or the allocation of a new queue failed
+-- the answer is the machine's, or the allocation of a new queue failed
 subscribes_or : (log : List PlainEntry) (by : ℕ) (v : Option ℕ) (q new : PlainQueues) (code : Code) → nat_lt (length log) (unwrap_or v (length log)) ≡ false → nat_eq q.next 18446744073709551615 ≡ false → new ≡ q → (code ≡ E10) ⊎ (open_queue by (unwrap_or v (length log)) q ≡ Err code)
     → SubscribesOrOutOfMemory log by v q (Err code) new
 subscribes_or log by v q new code seen free same (inl e) =

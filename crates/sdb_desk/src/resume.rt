@@ -9,9 +9,9 @@ use sdb_oplog::{Code, Content, Entry, entries_equal, rebase};
 use std::alloc::Global;
 
 impl Work {
-    /// Works the submission for a newer look. It transforms the content only against entries that
-    /// are new in it, and applies the result to its snapshot. It starts again if the old entries
-    /// aren't a prefix of the new ones, or if the submission has no version.
+    /// Computes the work of the submission for a newer look. It transforms the content only against
+    /// entries that are new in it, and applies the result to its snapshot. It starts again if the
+    /// old entries aren't a prefix of the new ones, or if the submission has no version.
     ///
     /// # Errors
     ///

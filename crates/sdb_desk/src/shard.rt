@@ -81,6 +81,11 @@ pub struct Shard {
 
 impl Shard {
     /// Creates a shard without documents and queues. It keeps the allocator.
+    ///
+    /// ```
+    /// let shard = Shard::new(alloc);
+    /// assert_eq!(rt; (shard.version(&key), shard.queues()), (0, 0));
+    /// ```
     pub fn new(alloc: Global) -> Shard
         ensures logs { logs_of result ≡ no_logs }
         ensures caches { caches_of result ≡ (λ k. []) }
@@ -199,6 +204,15 @@ impl Shard {
     ///
     /// `Refused(E10)` is an allocation failure, and nothing changes. A duplicate, a full log, a
     /// version that is too new and a refused work don't allocate.
+    ///
+    /// ```
+    /// let look = shard.look(&key, &submission)?;
+    /// let Ok(mut work) = Work::compute(alloc, Attempt { submission, look }) else {
+    ///     return Err(Code::E10);
+    /// };
+    /// let outcome = shard.commit(&key, &mut work, Moment::zero());
+    /// assert!(rt; matches!(outcome, Outcome::Decided(Reply::Stored { v: 0, .. })));
+    /// ```
     pub fn commit(&mut self, key: &Key, work: &mut Work, now: Moment) -> Outcome
         requires { IsLook (logs_of self.old (plain_key key.now)) work.old }
         ensures commits { CommitsOrOutOfMemory (logs_of self.old) (plain_key key.now) work.old now
@@ -475,12 +489,18 @@ impl Shard {
         Ok(())
     }
 
-    /// Returns the current version and a clone of the document. Its cost is to freeze what changed
-    /// since the last freeze, else a pointer.
+    /// Returns the current version and a clone of the document. It costs a pointer, and the
+    /// freezing of the parts that changed since the last freeze.
     ///
     /// # Errors
     ///
     /// [`Code::E10`] if an allocation fails. No log and no queue changes.
+    ///
+    /// ```
+    /// drop(shard.commit_now(&key, &create, Moment::zero()));
+    /// let fetched = shard.fetch(&key)?;
+    /// assert!(rt; fetched.version == 1 && fetched.snapshot.is_some());
+    /// ```
     pub fn fetch(&mut self, key: &Key) -> Result<FetchResult, Code>
         ensures fetched { ReadOrOutOfMemory read_has_document (fetch_result_view result)
             (Ok (fetch_result (logs_of self.old (plain_key key.now)))) }
@@ -552,16 +572,23 @@ impl Shard {
 
     /// Returns the document at a version, or the current one if it is `None`, with its version. An
     /// older document is replayed from the nearest cached snapshot and then cached: at most eight
-    /// per document, least recently used first out.
+    /// per document, of which the least recently used one is evicted first.
     ///
-    /// Snapshots share what the entries between them don't touch. A cached one costs a pointer, the
-    /// current one as much as [`Shard::fetch`], another one its replayed entries and a copy of what
-    /// they touch.
+    /// Snapshots share the parts that the entries between them don't change. A cached snapshot
+    /// costs a pointer, the current document as much as [`Shard::fetch`]. Any other costs the
+    /// replay of its entries and a copy of the parts that they change.
     ///
     /// # Errors
     ///
     /// [`Code::E4`] if the version is above the current one, [`Code::E10`] if an allocation fails
     /// at a version above 0. No log and no queue changes.
+    ///
+    /// ```
+    /// // The only entry creates the document, so version 0 has none.
+    /// assert!(rt; shard.snapshot_at(&key, Some(0))?.snapshot.is_none());
+    /// assert!(rt; shard.snapshot_at(&key, Some(1))?.snapshot.is_some());
+    /// assert!(rt; matches!(shard.snapshot_at(&key, Some(2)), Err(Code::E4)));
+    /// ```
     pub fn snapshot_at(&mut self, key: &Key, version: Option<u64>) -> Result<FetchResult, Code>
         ensures snapshot { ReadOrOutOfMemory read_has_version (fetch_result_view result)
             (snapshot_at (logs_of self.old (plain_key key.now)) version) }
@@ -702,7 +729,7 @@ impl Shard {
     }
 
     /// Caches the document at a version, unless it is absent or an allocation fails. At most eight
-    /// snapshots are cached, least recently used first out.
+    /// snapshots are cached, and the least recently used one is evicted.
     pub fn offer(&mut self, key: &Key, version: u64, snapshot: Option<&Json>)
         requires bound { version ≤ length (logs_of self.old (plain_key key.now)) }
         requires snapshot { document_of (take version (logs_of self.old (plain_key key.now))) ≡

@@ -15,7 +15,7 @@ use std::alloc::Global;
 use std::marker::Model;
 use std::mem;
 
-/// What is read before the work, for a submission.
+/// The facts that a submission's work needs, read at one version of the log.
 #[derive(Drop)]
 pub struct Look {
     /// The current version.
@@ -99,13 +99,13 @@ impl Work {
         }
     }
 
-    /// Works the attempt: transforms its content against the missed entries, and applies the result
-    /// to a copy-on-write copy of the look's document.
+    /// Computes the work of the attempt: transforms its content against the missed entries, and
+    /// applies the result to a copy-on-write copy of the look's document.
     ///
     /// # Errors
     ///
-    /// The attempt, unchanged, if an allocation fails. This needs an edit to transform against an
-    /// edit, or a document to change.
+    /// The attempt, unchanged, if an allocation fails. It allocates only to transform an edit
+    /// against an edit, and to change a document.
     pub fn compute(alloc: Global, attempt: Attempt) -> Result<Work, Attempt>
         ensures ok { IfOk result (λ w. w ≡ plain_attempt attempt) }
         ensures err { IfErr result (λ a. plain_attempt a ≡ plain_attempt attempt) }
@@ -126,7 +126,7 @@ impl Work {
     ///
     /// # Errors
     ///
-    /// The attempt, unchanged, if an allocation fails. This needs a document to change.
+    /// The attempt, unchanged, if an allocation fails. It allocates only to change a document.
     pub fn from_content(
         alloc: Global,
         attempt: Attempt,

@@ -19,8 +19,8 @@ pub record AreDumpable (v : DumpVersion) (f : Logs) : Type 0 where
 abbrev pub HaveCountableEntries : Logs → Type 0
 HaveCountableEntries f = (n : ℕ) → HasEntryCount f n → n < 2 ^ 64
 
--- the dump of such logs is accepted and gives them; an accepted text is the dump of the logs that it gives, and they
--- are such logs if keys and submissions are within the limits
+-- the dump of such logs is accepted and gives them. An accepted text is the dump of the logs that it gives; they are
+-- such logs if keys and submissions are within the limits
 pub record TextIsOfLogs : Type 0 where
   pub accepted : (v : DumpVersion) (f : Logs) (text : List ℕ) → AreDumpable v f → HaveCountableEntries f → DumpText v f text
       → (xs : List PlainLine) × (check_text text ≡ Ok xs) × ((k : PlainKey) → log_of_lines xs k ≡ f k)

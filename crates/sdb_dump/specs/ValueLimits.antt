@@ -1,4 +1,4 @@
--- The limits of values and operations. `r` is the maximal depth of a removed value: 50 in a submission, 100 in the log,
+-- The limits of values and operations. `r` is the maximum depth of a removed value: 50 in a submission, 100 in the log,
 -- since entries before it can insert deeper values.
 use Rattle.std.specs.Prelude.{ℕ, ◌<◌, ◌≤◌, List, [], ◌∷◌, length, ⊤}
 use Rattle.std.specs.Str.{IsUtf8}

@@ -10,7 +10,7 @@ use crate::checker::{CheckedDump, Checker, DumpFault};
 use sdb_lines::{READ_LIMIT, Source, first_line_feed};
 use std::alloc::{AllocError, Global};
 
-// Maximal number of bytes per read: 64 KiB.
+// Maximum number of bytes per read: 64 KiB.
 const BUFFER_LEN: usize = 65_536;
 
 /// Reads a dump to its end and checks it: it is exactly what a server would have stored for the
@@ -21,6 +21,12 @@ const BUFFER_LEN: usize = 65_536;
 ///
 /// [`DumpFault::WrongLine`] with the first wrong line, [`DumpFault::ReadFailed`] if a read fails or
 /// the limit of reads is reached, [`DumpFault::OutOfMemory`] if an allocation fails.
+///
+/// ```
+/// let dump = b"{\"dump\":2}\n{\"entries\":0}\n";
+/// let checked = check_dump(alloc, &mut CountingReader::new(dump.as_slice()))?;
+/// assert_eq!(rt; (checked.documents, checked.entries), (0, 0));
+/// ```
 pub fn check_dump<R: Source>(alloc: Global, reader: &mut R) -> Result<CheckedDump, DumpFault>
     ensures accepted { IfOk result (λ c. IfSome (R.remaining_input reader.old) (λ text. AcceptsText c text)) }
     ensures fault { IfErr result (λ f. IfSome (R.remaining_input reader.old) (λ text. IsDumpFault f

@@ -85,7 +85,7 @@ fn write_line(
     write_tail(entry, out)
 }
 
-// The moment, if the version of the dump contains it.
+// Returns the moment if the version of the dump contains it.
 fn written_moment(version: DumpVersion, moment: Moment) -> Option<Moment>
     ensures { result ≡ written_moment version moment }
 {
@@ -167,7 +167,7 @@ fn write_content(
     }
 }
 
-// The moment, if the version of the dump contains it.
+// Writes the moment, if there is one.
 fn write_moment(moment: Option<Moment>, out: &mut Writer) -> Result<(), AllocError>
     ensures tokens { OnOk result ((rest : Members) → out.new.tokens ++ object_tail_tokens rest
         ≡ out.old.tokens ++ object_tail_tokens (push_moment moment rest)) }

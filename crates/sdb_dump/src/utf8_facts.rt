@@ -1,5 +1,5 @@
-//! Facts that the types of a submission give. The functions only traverse it; their contracts state
-//! the facts.
+//! Facts that the types of a submission guarantee. The functions only traverse it; their contracts
+//! state the facts.
 ghost use Rattle.std.specs.Prelude.{◌≡◌, true};
 ghost use Rattle.std.specs.Str.{IsUtf8};
 ghost use Rattle.sdb_value.specs.View.{plain_path, plain_step, value_of};

@@ -44,6 +44,13 @@ pub trait DumpSource {
 ///
 /// [`RunFault::OutOfMemory`] if an allocation fails, [`RunFault::WriteFailed`] if a write or flush
 /// fails. The bytes written are then a prefix of the dump.
+///
+/// ```
+/// // `documents` has no entries.
+/// let mut writer = CountingWriter::new(Vec::new(alloc));
+/// assert_eq!(rt; write_dump(alloc, &documents, &mut writer)?, 0);
+/// assert_eq!(rt; writer.stream.as_slice(), b"{\"dump\":2}\n{\"entries\":0}\n".as_slice());
+/// ```
 pub fn write_dump<D: DumpSource, W: Sink>(
     alloc: Global,
     documents: &D,

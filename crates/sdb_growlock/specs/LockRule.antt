@@ -81,7 +81,7 @@ module _ {T : Type 0} (extends : T → T → Type 0) (same : ℕ → T → T →
   abbrev pub release_step : Step (Option T) → SeatState → ℕ → SeatState → Type 0
   release_step st m r m' = (w : T) → m.1 ≡ (0, Some w) ∷ [] → m' ≡ (released_view m.0 w, [])
 
-  -- the seat learns that there is no part of its next number
+  -- the seat observes that the value has no part of its next number
   abbrev pub read_step : Step (Option T) → SeatState → ℕ → SeatState → Type 0
   read_step st m r m' = (m' ≡ m) × (m.0.next ≢ 0 → ForEach (λ p. blank m.0.next p.value) m.0.seen)
 

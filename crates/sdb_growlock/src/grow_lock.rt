@@ -8,10 +8,19 @@ use std::sync::atomic::AtomicU64;
 
 /// A lock around a value that only grows. It is created with its first seat; each thread needs its
 /// own seat.
+///
+/// ```
+/// // `CountTurn` is a `Job` that adds 1 to a `Count` and returns the sum.
+/// let Ok((lock, mut seat)) = GrowLock::new(alloc, Count { turns: 0 }) else {
+///     return Err(AllocError);
+/// };
+/// assert_eq!(rt; lock.with(&rt, &mut seat, CountTurn), 1);
+/// assert_eq!(rt; lock.with(&rt, &mut seat, CountTurn), 2);
+/// ```
 #[derive(Drop)]
 pub struct GrowLock<T: Grows> {
     pub(crate) table: LockTable<T>,
-    // number of threads that wait for the value or are about to
+    // Number of threads that wait for the lock or are about to.
     pub(crate) waiting: AtomicU64,
     ghost one_word_one_slot: { (table.shared.table_id.words ≡ 1) × (table.shared.table_id.slots ≡ 1) },
 }
@@ -19,6 +28,13 @@ pub struct GrowLock<T: Grows> {
 /// The right to acquire one lock, under a unique number: 0 for the first seat, then one more for
 /// each split. A seat records the last value that it observed (`HasSeen`), which each later value
 /// extends.
+///
+/// ```
+/// // One seat for each thread, split from the lock's first seat.
+/// let one = lock.split(&mut first)?;
+/// let two = lock.split(&mut first)?;
+/// assert_eq!(rt; (first.number(), one.number(), two.number()), (0, 1, 2));
+/// ```
 pub struct Seat<T> {
     pub(crate) number: u64,
     pub(crate) next: u64,

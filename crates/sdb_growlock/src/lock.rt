@@ -137,7 +137,7 @@ impl<T: Grows> GrowLock<T> {
         value
     }
 
-    // Acquires the lock. The value is then in the seat's slot.
+    // Acquires the lock. The seat then holds the value.
     fn acquire<R: Wait>(&self, rt: &R, table_seat: &mut TableSeat<T>)
         requires belongs { table_seat.old.table_id ≡ self.now.table.shared.table_id }
         requires one { (n : ℕ) × (x : T) × (table_seat.old.me.0.seen ≡ observation n x ∷ []) }
@@ -215,7 +215,7 @@ impl<T: Grows> GrowLock<T> {
         self.table.shared.split_seat::<SplitJoinStep>(table_seat)
     }
 
-    // Joins `other` into `place`.
+    // Joins `other` into `table_seat`.
     fn join_table_seat(&self, table_seat: &mut TableSeat<T>, other: TableSeat<T>)
         requires belongs { (table_seat.old.table_id ≡ self.now.table.shared.table_id)
             × (other.table_id ≡ self.now.table.shared.table_id) }
@@ -229,7 +229,7 @@ impl<T: Grows> GrowLock<T> {
             .join_seat::<SplitJoinStep>(table_seat, other);
     }
 
-    // Joins all seats into `place`.
+    // Joins all seats into `table_seat`.
     fn join_all_table_seats(&self, table_seat: &mut TableSeat<T>, mut seats: Vec<Seat<T>>)
         requires belongs { table_seat.old.table_id ≡ self.now.table.shared.table_id }
         requires same_table { ForEach (λ s. s.inner.table_id ≡ self.now.table.shared.table_id) seats.items }

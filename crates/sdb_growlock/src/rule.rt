@@ -30,7 +30,7 @@ impl<T: Grows> Play<Option<T>, View<T>> for ReleaseStep {
     ghost then = { release_step T.extends T.same T.blank };
 }
 
-/// Reads the word. The first seat learns that the value has no part of the next number.
+/// Reads the word. The first seat then also observes that the value has no part of the next number.
 pub struct ReadStep;
 
 impl<T: Grows> Play<Option<T>, View<T>> for ReadStep {

@@ -25,7 +25,8 @@ pub(crate) fn find_field<'v, 'a>(
     None
 }
 
-// Most names differ in length, so that most comparisons need no call.
+// Returns whether the name is the key. Most names differ in length, so most comparisons need no
+// call.
 #[inline(always)]
 fn is_named(name: &str, key: &str) -> bool
     ensures { result ≡ bytes_eq name.now key.now }

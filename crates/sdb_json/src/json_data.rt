@@ -40,7 +40,7 @@ pub trait JsonData {
     ///
     /// # Errors
     ///
-    /// [`AllocError`] if an allocation fails; the value is not changed.
+    /// [`AllocError`] if an allocation fails.
     fn members(&self, alloc: Global) -> Result<Option<BTreeMap<&str, &Self>>, AllocError>
         ensures { IfOk result (λ m. option_map (λ members. sorted_members json members.entries) m
             ≡ as_object (json self.now)) };

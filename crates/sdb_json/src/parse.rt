@@ -159,7 +159,7 @@ fn push_object_field<'a>(
     Ok(())
 }
 
-// Reserves room for the first members when the list is empty.
+// Reserves space for the first members if the list is empty.
 fn reserve_field<'a>(fields: &mut Vec<(&'a str, JsonTree<'a>)>) -> Result<(), AllocError>
     ensures { OnOk result (fields.new.items ≡ fields.old.items) }
 {

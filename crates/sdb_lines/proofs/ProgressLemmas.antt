@@ -21,7 +21,7 @@ abbrev pub no_lines : Counts
 no_lines = record { lines = 0; steps = 0 }
 
 module _ {S : Type 0} (takes : S → Option (List ℕ) → List ℕ → S → Type 0) (is_step : List ℕ → Bool) where
-  -- the bytes read, the lines that ended in them, and their responses and counts
+  -- the bytes read, the lines that ended in them, and their answers and counts
   pub record RunProgress (left left' : Option (List ℕ)) (s t : S) (first : List ℕ) (old new : Option (List ℕ)) (counts : Counts) (partial : List ℕ) : Type 0 where
     pub read : List ℕ
     pub lines : List (Option (List ℕ))

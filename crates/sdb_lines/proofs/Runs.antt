@@ -69,7 +69,7 @@ module _ {S : Type 0} (takes : S → Option (List ℕ) → List ℕ → S → Ty
   first-prefix s first old new lines w =
       record { taken = []; bytes = []; last = s; from_first = (lines, refl); run = Run-none s; wrote = AppendsFront-more old new first [] w }
 
-  -- the response to a line is pending
+  -- the answer to a line is pending
   pub line-line_buffer : {s t : S} {line : Option (List ℕ)} (first line_buffer : List ℕ) (old : Option (List ℕ)) → AppendsWhere first line_buffer (λ answer. takes s line answer t) → AppendsAnswersUpTo takes line_buffer s (line ∷ []) t first old old
   line-line_buffer {s} {t} {line} first line_buffer old (answer, e, h) = record { bytes = answer; written = []; run = Run-one s t line answer h; parts = sym e; wrote = Appends-none old }
 
@@ -132,7 +132,7 @@ module _ {S : Type 0} (takes : S → Option (List ℕ) → List ℕ → S → Ty
       → AppendsAnswers takes s a t first old mid → AppendsAnswerPrefix takes t b [] mid new → AppendsAnswerPrefix takes s (a ++ b) first old new
   lines-written_prefix x y = lines-prefix (none-line_buffer [] refl x) y
 
-  -- a prefix of the responses to some lines is a prefix of the responses to more
+  -- a prefix of the answers to some lines is a prefix of the answers to more
   pub all-prefix : {s t : S} {lines : List (Option (List ℕ))} {first : List ℕ} {old new : Option (List ℕ)} → AppendsAnswers takes s lines t first old new → AppendsAnswerPrefix takes s lines first old new
   all-prefix {t = t} {lines} {first} a =
       record { taken = lines; bytes = a.bytes; last = t; from_first = prefix-refl lines; run = a.run; wrote = (first ++ a.bytes, a.wrote, prefix-refl (first ++ a.bytes)) }

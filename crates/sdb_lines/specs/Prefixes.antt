@@ -7,6 +7,6 @@ use Rattle.std.specs.Io.KnownBytes.{Appends}
 abbrev pub IsPrefix : {A : Type 0} → List A → List A → Type 0
 IsPrefix {A} front all = (after : List A) × (all ≡ front ++ after)
 
--- the known bytes grow by a prefix of the list
+-- the known bytes are extended by a prefix of the list
 abbrev pub AppendsPrefix : Option (List ℕ) → Option (List ℕ) → List ℕ → Type 0
 AppendsPrefix old new all = (bytes : List ℕ) × Appends old new bytes × IsPrefix bytes all

@@ -4,26 +4,26 @@ use Rattle.std.specs.declared.option.Option.{Option}
 use Rattle.std.specs.Io.KnownBytes.{Appends}
 use Rattle.sdb_lines.specs.Prefixes.{IsPrefix, AppendsPrefix}
 
--- the bytes grow by a suffix of which P holds
+-- the bytes are extended by a suffix of which P holds
 abbrev pub AppendsWhere : List ℕ → List ℕ → (List ℕ → Type 0) → Type 0
 AppendsWhere old new P = (more : List ℕ) × (new ≡ old ++ more) × P more
 
--- takes s line answer t: the handler in state s responds to this line with these bytes and is then in state t
+-- takes s line answer t: the handler in state s answers this line with these bytes and is then in state t
 module _ {S : Type 0} (takes : S → Option (List ℕ) → List ℕ → S → Type 0) where
-  -- the handler in state s takes exactly these lines, in order, responds with these bytes and is then in state t
+  -- the handler in state s takes exactly these lines, in order, answers with these bytes and is then in state t
   abbrev pub Handles : S → List (Option (List ℕ)) → List ℕ → S → Type 0
   Handles s [] bytes t = (bytes ≡ []) × (t ≡ s)
   Handles s (line ∷ lines) bytes t = (answer : List ℕ) × (next : S) × (more : List ℕ)
       × takes s line answer next × Handles next lines more t × (bytes ≡ answer ++ more)
 
-  -- the known bytes grow by the opening text and the responses to all these lines
+  -- the known bytes are extended by the opening text and the answers to all these lines
   pub record AppendsAnswers (s : S) (lines : List (Option (List ℕ))) (t : S) (first : List ℕ)
       (old new : Option (List ℕ)) : Type 0 where
     pub bytes : List ℕ
     pub run : Handles s lines bytes t
     pub wrote : Appends old new (first ++ bytes)
 
-  -- the known bytes grow by all of that except its pending suffix
+  -- the known bytes are extended by all of that except its pending suffix
   pub record AppendsAnswersUpTo (line_buffer : List ℕ) (s : S) (lines : List (Option (List ℕ))) (t : S) (first : List ℕ)
       (old new : Option (List ℕ)) : Type 0 where
     pub bytes : List ℕ
@@ -32,7 +32,7 @@ module _ {S : Type 0} (takes : S → Option (List ℕ) → List ℕ → S → Ty
     pub parts : first ++ bytes ≡ written ++ line_buffer
     pub wrote : Appends old new written
 
-  -- the known bytes grow by a prefix of the opening text and the responses to the first of these lines
+  -- the known bytes are extended by a prefix of the opening text and the answers to the first of these lines
   pub record AppendsAnswerPrefix (s : S) (lines : List (Option (List ℕ))) (first : List ℕ)
       (old new : Option (List ℕ)) : Type 0 where
     pub taken : List (Option (List ℕ))

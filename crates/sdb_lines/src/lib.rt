@@ -1,7 +1,7 @@
-//! A loop that reads lines and writes the responses to them.
+//! A loop that reads lines and writes the answers to them.
 //!
 //! [`run_lines`] reads an input to its end and passes each line to a [`LineHandler`], which appends
-//! the response. It reads from a [`Source`] and writes to a [`Sink`]; [`CountingReader`] and
+//! the answer. It reads from a [`Source`] and writes to a [`Sink`]; [`CountingReader`] and
 //! [`CountingWriter`] implement these for the readers and writers of `std`.
 #![tactic(auto)]
 

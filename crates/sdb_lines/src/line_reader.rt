@@ -29,12 +29,20 @@ const PARTIAL_LINE_LIMIT: usize = 1_048_577;
 const OUTPUT_LIMIT: usize = 65_536;
 
 /// A state machine that handles lines in order.
+///
+/// ```
+/// // The handler answers a line with the length of the longest line so far.
+/// let mut out = Vec::new(alloc);
+/// handler.write_opening(alloc, &mut out)?;
+/// assert!(rt; handler.handle(alloc, "abc", &mut out)?);
+/// assert_eq!(rt; out.as_slice(), b"0\n3\n".as_slice());
+/// ```
 pub trait LineHandler {
     // The bytes written before the first line is read.
     ghost opening: { Self → List ℕ };
 
-    // Whether the handler in the first state responds to this line with these bytes and is then in
-    // the second state. `None` is a line that is too long or not UTF-8.
+    // Whether the handler in the first state answers this line with these bytes and is then in the
+    // second state. `None` is a line that is too long or not UTF-8.
     ghost handles: { Self → Option (List ℕ) → List ℕ → Self → Type 0 };
 
     // Whether a line counts as a step, by its text alone.
@@ -49,7 +57,7 @@ pub trait LineHandler {
     fn write_opening(&self, alloc: Global, out: &mut Vec<u8>) -> Result<(), AllocError>
         ensures { OnOk result (out.new.items ≡ out.old.items ++ opening self.now) };
 
-    /// Handles a line, given without its line feed, and appends the response to `out`. Returns
+    /// Handles a line, given without its line feed, and appends the answer to `out`. Returns
     /// whether the line is a step.
     ///
     /// # Errors
@@ -61,7 +69,7 @@ pub trait LineHandler {
             (λ answer. handles self.old (Some line.now) answer self.new)) }
         ensures step { IfOk result (λ b. b ≡ counts_as_step line.now) };
 
-    /// Handles a line that is longer than [`LINE_LIMIT`] or not UTF-8, and appends the response to
+    /// Handles a line that is longer than [`LINE_LIMIT`] or not UTF-8, and appends the answer to
     /// `out`. Such a line is not a step.
     ///
     /// # Errors
@@ -78,7 +86,7 @@ pub trait LineHandler {
 pub(crate) struct LineBuffer {
     // The bytes of the unfinished line, up to the limit.
     pub partial_line: Vec<u8>,
-    // The responses that are not written yet.
+    // The answers that are not written yet.
     pub out: Vec<u8>,
     pub counts: Counts,
     ghost partial_line_bounded: { vec_len partial_line ≤ max_partial_len },
@@ -281,7 +289,7 @@ pub(crate) fn write_opening<M: LineHandler, W: Sink>(
     write_and_flush(&mut out, writer)
 }
 
-// Handles the lines that end in this chunk, writes their responses and flushes the writer.
+// Handles the lines that end in this chunk, writes their answers and flushes the writer.
 pub(crate) fn handle_chunk<M: LineHandler, W: Sink>(
     alloc: Global,
     machine: &mut M,

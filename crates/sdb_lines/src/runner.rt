@@ -1,7 +1,7 @@
 //! The loop that reads, handles and counts the lines of a whole input.
 //!
 //! All pending output is written and flushed before the next read. A client that writes a line and
-//! waits therefore gets the response without sending more.
+//! waits therefore gets the answer without sending more.
 ghost use Rattle.std.specs.Prelude.{◌≡◌, ◌+◌, ◌-◌, ◌^◌, ◌≤◌, ◌<◌, ◌⊎◌, ◌++◌, true, if◌then◌else◌, length, min, map, OnOk, OnErr, IfOk, IfSome, vec_len, IsErrOf};
 ghost use Rattle.sdb_lines.specs.Lines.{readable_text, lines_of};
 ghost use Rattle.sdb_lines.specs.Counts.{AreCountsOf};
@@ -52,7 +52,7 @@ pub enum RunFault {
     /// A write or a flush failed, or a write of one or more bytes wrote 0.
     #[error("writing the output failed")]
     WriteFailed,
-    /// An allocation failed: for the read buffer of 64 KiB, a line or its response.
+    /// An allocation failed: for the read buffer of 64 KiB, a line or its answer.
     #[error("out of memory")]
     OutOfMemory,
 }
@@ -67,12 +67,12 @@ impl From<AllocError> for RunFault {
     }
 }
 
-/// Writes the opening text, reads the input to its end, and writes the response to each of its
-/// lines. Returns the number of lines and of steps. A last line needs no line feed.
+/// Writes the opening text, reads the input to its end, and writes the answer to each of its lines.
+/// Returns the number of lines and of steps. A last line needs no line feed.
 ///
 /// The output is written and flushed before each read and at the end, and written without a flush
 /// once it reaches 64 KiB. A read takes at most 64 KiB. At most 1,048,577 bytes of a line are kept,
-/// whatever its length.
+/// however long it is.
 ///
 /// # Errors
 ///
@@ -80,22 +80,31 @@ impl From<AllocError> for RunFault {
 /// [`RunFault::WriteFailed`] if a write or a flush fails. [`RunFault::OutOfMemory`] if an
 /// allocation fails.
 ///
-/// The bytes written are then a prefix of the opening text and the responses in order. The reader
-/// may have given bytes of lines that were not handled, and the machine may have handled lines
-/// whose responses were not written.
+/// The bytes written are then a prefix of the opening text and the answers in order. The reader may
+/// have returned bytes of lines that were not handled, and the handler may have handled lines whose
+/// answers were not written.
+///
+/// ```
+/// // The handler answers a line with the length of the longest line so far.
+/// let mut reader = CountingReader::new(b"abc\nhello\n".as_slice());
+/// let mut writer = CountingWriter::new(Vec::new(alloc));
+/// let counts = run_lines(alloc, &mut handler, &mut reader, &mut writer)?;
+/// assert_eq!(rt; counts, Counts { lines: 2, steps: 2 });
+/// assert_eq!(rt; writer.stream.as_slice(), b"0\n3\n5\n".as_slice());
+/// ```
 pub fn run_lines<M: LineHandler, R: Source, W: Sink>(
     alloc: Global,
     machine: &mut M,
     reader: &mut R,
     writer: &mut W,
 ) -> Result<Counts, RunFault>
-    // The handler took exactly the lines of the input, in order, and all responses were written.
+    // The handler took exactly the lines of the input, in order, and all answers were written.
     ensures wrote_all { OnOk result (IfSome (R.remaining_input reader.old) (λ input.
         AppendsAnswers M.handles machine.old (map readable_text (lines_of input)) machine.new
         (M.opening machine.old) (W.bytes_written writer.old) (W.bytes_written writer.new))) }
     ensures counts { IfOk result (λ counts. IfSome (R.remaining_input reader.old)
         (λ input. AreCountsOf M.counts_as_step input counts)) }
-    // After an error a prefix of the opening text and the responses was written.
+    // After an error a prefix of the opening text and the answers was written.
     ensures prefix_on_err { OnErr result (IfSome (R.remaining_input reader.old) (λ input.
         AppendsAnswerPrefix M.handles machine.old (map readable_text (lines_of input))
         (M.opening machine.old) (W.bytes_written writer.old) (W.bytes_written writer.new))) }

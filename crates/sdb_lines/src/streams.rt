@@ -33,7 +33,7 @@ pub trait Source {
         ensures calls { calls self.new ≡ min (calls self.old + 1) (2 ^ 64 - 1) };
 }
 
-/// A reader of `std` with counters. A failure stops no later call.
+/// A reader of `std` with counters. Calls after a failure still reach the stream.
 #[derive(Drop)]
 pub struct CountingReader<S> {
     /// The underlying reader. Calls made on it directly are not counted.
@@ -107,7 +107,7 @@ pub trait Sink {
         ensures failures { failures self.new ≡ failures_after (is_err result) (failures self.old) };
 }
 
-/// A writer of `std` with a counter. A failure stops no later call.
+/// A writer of `std` with a counter. Calls after a failure still reach the stream.
 #[derive(Drop)]
 pub struct CountingWriter<S> {
     /// The underlying writer. Calls made on it directly are not counted.

@@ -9,8 +9,8 @@ use std::cell::Cell;
 use std::io;
 use std::io::{ErrorKind, Read, Write};
 
-// A handler that responds with the length of the longest line so far as a digit, at most 9. It
-// responds `bad` to an unreadable line.
+// A handler that answers with the length of the longest line so far as a digit, at most 9. It
+// answers `bad` to an unreadable line.
 #[derive(Drop)]
 struct LongestLineHandler {
     digit: u8,
@@ -332,7 +332,7 @@ fn at_most_64_kib_of_output_are_pending(rt: HostRuntime) {
         written: Cell::new(0),
         flushed: Cell::new(0),
     };
-    // One read returns all these lines, each with a response of two bytes.
+    // One read returns all these lines, each with an answer of two bytes.
     let input = vec![in rt.alloc(); b'\n'; 50_000].expect(&rt, "out of memory");
     let (outcome, longest) = run_measuring_writes(rt.alloc(), input.as_slice(), &counts);
     assert!(rt; outcome.is_ok() && (counts.written.get(), longest) == (100_002, 65_536));

@@ -1,4 +1,4 @@
--- The decision of one submission on a log: `Decide`. The first case that applies decides.
+-- The decision of one submission on a log, `decide`: the first case that applies.
 use Rattle.std.specs.Prelude.{◌≡◌, ℕ, List, [], ◌∷◌, ◌++◌, length, drop, max, Bool, true, false, ◌||◌, if◌then◌else◌, nat_eq, nat_lt, Option, Some, None, Result, Ok, Err, unwrap_or}
 use Rattle.std.specs.Option.{is_some, option_map_or}
 use Rattle.sdb_value.specs.Value.{Value}

@@ -14,7 +14,7 @@ pub record PlainKey : Type 0 where
 abbrev pub plain_key : Key → PlainKey
 plain_key k = record { collection = string_bytes k.collection; id = string_bytes k.id }
 
--- by collection, then by id
+-- the order of keys: by the bytes of the collection, then of the id
 abbrev pub compare_keys : PlainKey → PlainKey → Ordering
 compare_keys a b = ordering_then (slice_cmp nat_cmp a.collection b.collection) (slice_cmp nat_cmp a.id b.id)
 

@@ -1,4 +1,5 @@
--- The content transformed against each entry stored since its base version: `Over`.
+-- A content transformed against one stored content (`over`), and against each entry stored since its base version
+-- (`rebase`).
 use Rattle.std.specs.Prelude.{List, [], ◌∷◌, Bool, true, false, Result, Ok, Err}
 use Rattle.std.specs.Option.{option_map_or}
 use Rattle.sdb_component.specs.Plain.{PlainComponent}
@@ -22,7 +23,7 @@ over (create v) (edit other) = Err E6
 over delete (edit other) = Ok delete
 over (edit op) (edit other) = edit_over op other
 
--- transformed against each entry in order, up to the first refusal
+-- a content transformed against each entry in order, up to the first refusal
 abbrev pub rebase : PlainContent → List PlainEntry → Result PlainContent Code
 rebase m [] = Ok m
 rebase m (e ∷ es) = result_and_then (λ k. rebase k es) (over m e.content)

@@ -8,7 +8,7 @@ abbrev pub result_and_then : {A B E : Type 0} → (A → Result B E) → Result 
 result_and_then f (Ok x) = f x
 result_and_then f (Err e) = Err e
 
--- the code is the one that is due, or an allocation failed
+-- the code is the one that refuses the result, or E10 after an allocation failure
 abbrev pub IsRefusalOrOutOfMemory : {A : Type 0} → Result A Code → Code → Type 0
 IsRefusalOrOutOfMemory r E10 = ⊤
 IsRefusalOrOutOfMemory r c = r ≡ Err c

@@ -1,4 +1,4 @@
--- The document that a list of entries makes: `Snap`.
+-- The document that a list of entries makes, `snap`.
 use Rattle.std.specs.Prelude.{ℕ, ◌+◌, List, [], ◌∷◌, ◌++◌, Bool, true, false, ◌&&◌, cond, nat_eq, bytes_eq, Option, Some, None, Result, Ok, Err, option_map, option_and_then, unwrap_or}
 use Rattle.std.specs.Option.{option_map_or, is_none}
 use Rattle.std.specs.Result.{result_ok}

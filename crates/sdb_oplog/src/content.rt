@@ -34,6 +34,11 @@ pub enum Kind {
 
 /// The content of a submission or an entry: a create, a delete or an edit. It is immutable, and a
 /// clone is a pointer.
+///
+/// ```
+/// let create = Content::create(alloc, Json::Bool(true))?;
+/// assert!(rt; matches!(create.kind(), Kind::Create(_)));
+/// ```
 #[derive(Drop)]
 pub struct Content {
     kind: Kind,

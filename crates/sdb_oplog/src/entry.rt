@@ -20,6 +20,13 @@ struct Fields {
 }
 
 /// A session's submission to one document. It is immutable, and a clone is a pointer.
+///
+/// ```
+/// let (src, via) = (String::from_str(alloc, "x")?, String::from_str(alloc, "b")?);
+/// let delete = Content::delete();
+/// let submission = Submission::new(alloc, src, 1, None, delete, via, 0)?;
+/// assert_eq!(rt; (submission.src(), submission.seq()), ("x", 1));
+/// ```
 #[derive(Drop)]
 pub struct Submission {
     fields: Arc<Fields>,
@@ -171,11 +178,16 @@ impl Submission {
 
 /// An entry of a log: its version, its moment, the content that was applied, and its submission,
 /// with source, seq, `via` and `by`.
+///
+/// ```
+/// let entry = Entry::new(0, Moment::zero(), None, submission);
+/// assert_eq!(rt; (entry.version(), entry.arrived().src()), (0, "x"));
+/// ```
 #[derive(Drop)]
 pub struct Entry {
     version: u64,
     moment: Moment,
-    // `None` if it is the submitted content
+    // `None` if it is the submitted content.
     content: Option<Content>,
     arrived: Submission,
 }

@@ -7,6 +7,12 @@ use std::alloc::AllocError;
 
 /// The key of a document: a collection and an id. Keys are ordered by the bytes of the collection
 /// and then of the id.
+///
+/// ```
+/// let (collection, id) = (String::from_str(alloc, "b")?, String::from_str(alloc, "1")?);
+/// let key = Key { collection, id };
+/// assert_eq!(rt; key.shard(), 3);
+/// ```
 #[derive(PartialEq, Eq, PartialOrd, Ord, Hash, Debug, Drop)]
 pub struct Key {
     pub collection: String,

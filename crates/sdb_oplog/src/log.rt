@@ -18,6 +18,13 @@ use std::marker::Model;
 
 /// A list of at most [`MAX`] entries. No two have the same source and seq, each content applies at
 /// its version, and moments never decrease.
+///
+/// ```
+/// let mut log = Log::new(alloc);
+/// log.push(Entry::new(0, Moment::zero(), None, submission))?;
+/// assert_eq!(rt; (log.len(), log.stored_at("x", 1)), (1, Some(0)));
+/// assert!(rt; log.replay(1)?.is_some());
+/// ```
 #[derive(Drop)]
 pub struct Log {
     alloc: Global,

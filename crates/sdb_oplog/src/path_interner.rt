@@ -5,7 +5,7 @@ use crate::content::Content;
 use sdb_component::Path;
 use std::alloc::{AllocError, Global};
 
-// Maximal size of an interned path, in steps and bytes of its keys.
+// Maximum size of an interned path, in steps and bytes of its keys.
 const PATH_LIMIT: u64 = 256;
 
 /// An interner with the path of the last edit by one component. Consecutive edits at one path share

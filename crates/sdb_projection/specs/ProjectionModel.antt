@@ -1,4 +1,4 @@
--- The projection of values and operations to a set of top-level fields: `Projected`.
+-- The projection of values and operations to a set of top-level fields.
 use Rattle.std.specs.Prelude.{ℕ, List, ◌∷◌, Bool, true, false, ◌&&◌, cond}
 use Rattle.std.specs.List.{filter, list_all, list_any}
 use Rattle.sdb_value.specs.Value.{Value, null, object, Members, no_members, member, PlainStep, key, texts_equal}
@@ -25,7 +25,7 @@ abbrev pub path_starts_at_field : List (List ℕ) → List PlainStep → Bool
 path_starts_at_field fields (key k ∷ p) = is_field fields k
 path_starts_at_field fields _ = false
 
--- whether the component's path, with the act's last step, does
+-- whether the component's path, with the act's last step, begins with a field
 abbrev pub is_visible_component : List (List ℕ) → PlainComponent → Bool
 is_visible_component fields c = path_starts_at_field fields (full_path c.path c.act)
 

@@ -33,7 +33,7 @@ table_fault p table =
     else (if is_empty p.fields then Some NoField
     else None)))
 
--- the fault is the one that is due, or an allocation failed
+-- the fault is the first that applies, or an allocation failed
 abbrev pub IsTableFault : Option TableFault → TableFault → Type 0
 IsTableFault r OutOfMemory = ⊤
 IsTableFault r f = r ≡ Some f

@@ -10,8 +10,9 @@ use sdb_component::Op;
 use sdb_oplog::{Content, Kind};
 use sdb_value::{Json, Members};
 
-/// Returns whether the projection permits the content: a create of null or of an object with only
-/// its fields, a delete, or an edit whose components all begin at a field. It doesn't allocate.
+/// Returns whether the projection permits the content. It permits a create of null or of an object
+/// with only its fields, a delete, and an edit whose components all begin at a field. It doesn't
+/// allocate.
 pub fn allowed(projection: &Projection, content: &Content) -> bool
     ensures { result ≡ allowed (fields_of projection.now) content.now }
 {

@@ -1,4 +1,5 @@
-//! Projections: collection names that show some fields of another collection's documents.
+//! Projections: collection names under which some fields of another collection's documents are
+//! visible.
 #![tactic(auto)]
 
 mod allow;

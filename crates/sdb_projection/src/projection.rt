@@ -10,7 +10,15 @@ use sdb_component::{Act, Component};
 use sdb_value::Step;
 use std::collections::BTreeSet;
 
-/// A collection name that shows these top-level fields of another collection's documents.
+/// A collection name under which these top-level fields of another collection's documents are
+/// visible.
+///
+/// ```
+/// let mut fields = BTreeSet::new(alloc);
+/// fields.insert(String::from_str(alloc, "title")?)?;
+/// let (name, base) = (String::from_str(alloc, "titles")?, String::from_str(alloc, "boards")?);
+/// let projection = Projection { name, base, fields };
+/// ```
 #[derive(Drop)]
 pub struct Projection {
     pub name: String,

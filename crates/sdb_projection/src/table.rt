@@ -30,6 +30,12 @@ pub enum TableFault {
 }
 
 /// A list of projections in the order in which they were added.
+///
+/// ```
+/// let mut table = Table::new(alloc);
+/// table.add(projection)?;
+/// assert!(rt; table.find("titles").is_some() && table.find("boards").is_none());
+/// ```
 #[derive(Drop)]
 pub struct Table {
     projections: Vec<Projection>,

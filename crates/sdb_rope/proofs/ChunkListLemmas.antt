@@ -1,4 +1,4 @@
--- The stored chunks.
+-- Edits of a list of stored chunks.
 use Rattle.std.proofs.Common.{length-append, length-take, length-drop, ◌≡◌, Bool, true, false, ◌&&◌, All, map, refl, ℕ, zero, suc, ◌+◌, ◌-◌, ◌<◌, ◌≤◌, List, [], ◌∷◌, ◌++◌, length, take, drop, get_or, set, ap, sym, ◌∙◌, arith}
 use Rattle.std.specs.List.{concat, insert_slice, splice, remove_range, remove}
 use Rattle.std.proofs.lemmas.List.{get_or-map, length-map, take_more}

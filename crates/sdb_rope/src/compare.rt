@@ -36,9 +36,9 @@ pub(crate) fn chunks_equal(chunks: Iter<'_, RopeChunk>, others: Iter<'_, RopeChu
 // A cursor over the chunks of a text.
 #[derive(Drop)]
 struct ChunkCursor<'a> {
-    // the rest of the current chunk
+    // The rest of the current chunk.
     current: &'a [u8],
-    // the chunks after it
+    // The chunks after it.
     rest: Iter<'a, RopeChunk>,
 }
 

@@ -11,7 +11,7 @@ use crate::position::byte_position;
 use crate::rope_chunk::RopeChunk;
 use std::alloc::{AllocError, Global};
 
-/// Maximal length in bytes of a chunk.
+/// Maximum length in bytes of a chunk.
 pub(crate) const MAX_CHUNK_LEN: usize = 4096;
 
 // Length in bytes of the chunks into which a text is split, which leaves capacity for inserts.

@@ -10,7 +10,7 @@ use crate::rope_chunk::RopeChunk;
 use sdb_chunks::{Chunk, TryClone};
 use std::alloc::{AllocError, Global};
 
-/// Minimal number of chunks of a text with groups, and of a group that is split.
+/// Minimum number of chunks of a text with groups, and of a group that is split.
 pub(crate) const MIN_GROUP: usize = 16;
 
 // Returns the number of chunks per new group. Each group can grow to twice that number.

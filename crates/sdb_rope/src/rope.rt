@@ -24,6 +24,12 @@ use std::alloc::{AllocError, Global};
 
 /// A text in chunks of at most 4,096 bytes, unique or shared with clones. Offsets are in UTF-16
 /// code units.
+///
+/// ```
+/// let mut text = Rope::from_str(alloc, "a😀b")?;
+/// assert!(rt; text.insert(alloc, 3, "x")? && text.remove(alloc, 0, "a")?);
+/// assert_eq!(rt; text.to_string(alloc)?.as_str(), "😀xb");
+/// ```
 #[derive(Drop)]
 pub struct Rope {
     repr: RopeRepr,

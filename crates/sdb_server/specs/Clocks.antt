@@ -18,12 +18,12 @@ abbrev pub ClockReturns : Option (List ℕ) → ℕ → Option (List ℕ) → Ty
 ClockReturns None now new = ⊤
 ClockReturns (Some ts) now new = (now ≡ next_moment ts) × (new ≡ Some (moments_after ts))
 
--- the state of a session, and the moments that its clock returns next
+-- the session's state, and the moments that its clock returns next
 pub record TimedState : Type 0 where
   pub state : State
   pub remaining_moments : Option (List ℕ)
 
--- the line is answered as `Dialogue` says, at the clock's moment
+-- the line is answered by `Dialogue`, at the clock's moment
 pub record TimedDialogue (t : List PlainProjection) (old : TimedState) (line : Option (List ℕ)) (bytes : List ℕ) (new : TimedState)
     : Type 0 where
   pub now : ℕ

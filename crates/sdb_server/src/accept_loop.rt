@@ -277,7 +277,7 @@ where
 /// - A client with a pass counts, even if no thread can be started for its session, which then ends
 ///   at once.
 /// - A failure to accept is logged on standard error, once until accepting works again, as is each
-///   thread that can't be started. [`with_log`](ServerState::with_log) also logs the begin and the
+///   thread that can't be started. [`with_log`](ServerState::with_log) also logs the start and the
 ///   end of each session.
 /// - The listener is non-blocking afterwards.
 ///
@@ -285,6 +285,14 @@ where
 ///
 /// The [`io::Error`] of setting the listener to non-blocking, or one of kind `OutOfMemory` if an
 /// allocation fails. No connection was then accepted and the host is unchanged.
+///
+/// ```
+/// let (backend, mut host) = Backend::new(alloc, rt)?;
+/// let state = Arc::new(alloc, ServerState::new(alloc, backend, Table::new(alloc))?)?;
+/// let listener = TcpListener::bind(&rt, "127.0.0.1:0")?;
+/// // Serves one client, and returns when its session has ended.
+/// listen(rt, alloc, &listener, &state, &mut host, Some(1))?;
+/// ```
 pub fn listen<R>(
     rt: R,
     alloc: Global,
@@ -327,6 +335,14 @@ where
 /// # Errors
 ///
 /// As [`listen`]: no connection was accepted and the host is unchanged.
+///
+/// ```
+/// let stopped_state = Arc::try_clone(&state)?;
+/// let stopping = thread::spawn(&rt, move || stopped_state.stop())?;
+/// let passes = listen_until_stopped(rt, alloc, &listener, &state, &mut host)?;
+/// stopping.join(&rt);
+/// assert!(rt; passes.is_empty());
+/// ```
 pub fn listen_until_stopped<R>(
     rt: R,
     alloc: Global,

@@ -20,7 +20,7 @@ use tungstenite::{
     Bytes, CloseCode, CloseFrame, Error, Message, NoMask, Role, Utf8Bytes, WebSocket,
 };
 
-// Maximal number of pumps between two reads.
+// Maximum number of pumps between two reads.
 const PUMP_LIMIT: u64 = 16;
 
 // Number of silent reads before a ping: one minute at a read timeout of 20 milliseconds.
@@ -29,13 +29,13 @@ const SILENCE_LIMIT_BEFORE_PING: u64 = 3_000;
 // Number of silent reads before the connection is closed.
 const SILENCE_LIMIT: u64 = 6_000;
 
-// Maximal number of reads, of `DRAIN_BYTE_LIMIT` bytes each, that discard input after a session has
+// Maximum number of reads, of `DRAIN_BYTE_LIMIT` bytes each, that discard input after a session has
 // ended.
 const DRAIN_READ_LIMIT: u64 = 16_384;
 
 const DRAIN_BYTE_LIMIT: usize = 4_096;
 
-// Maximal number of silent reads among them: one second at a read timeout of 20 milliseconds.
+// Maximum number of silent reads among them: one second at a read timeout of 20 milliseconds.
 const DRAIN_SILENCE_LIMIT: u64 = 50;
 
 // What is sent to a client whose session has ended.

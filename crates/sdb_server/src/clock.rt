@@ -10,7 +10,7 @@ pub trait Clock {
     // The moments that the clock returns next, in order and then 0. `None` if they aren't known.
     ghost remaining_moments: { Self → Option (List ℕ) };
 
-    /// Returns the present moment.
+    /// Returns the current moment.
     fn now(&mut self) -> Moment
         ensures { ClockReturns (remaining_moments self.old) result (remaining_moments self.new) };
 }

@@ -11,7 +11,7 @@ use tungstenite::{Error, HandshakeError, NoCallback};
 // milliseconds.
 const HANDSHAKE_TIMEOUT: u64 = 500;
 
-// The number while other connections wait for a slot: one second.
+// The limit while other connections wait for a slot: one second.
 const CROWDED_TIMEOUT: u64 = 50;
 
 // The answer to a request that isn't a WebSocket handshake.

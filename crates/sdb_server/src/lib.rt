@@ -24,5 +24,5 @@ pub use deadline_stream::DeadlineStream;
 pub use line_session::{run_lines, run_lines_at_exit};
 pub use server_state::{CLIENT_LIMIT, ServerState, set_socket_options};
 
-// Maximal number of entries read from one queue at a time.
+// Maximum number of entries read from one queue at a time.
 const TAKE_LIMIT: u64 = 64;

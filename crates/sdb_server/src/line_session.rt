@@ -84,17 +84,27 @@ impl<C: Clock + Drop> LineHandler for LineSession<'_, C> {
 /// - The opening message is written first. After the answers to a line come the entries that it
 ///   stored in documents to which the session is subscribed.
 /// - An empty line, a line that isn't UTF-8 and a line of more than 1,048,576 bytes are answered
-///   E1. Trailing bytes without a line feed are a line if there are any.
-/// - The answers to all that was read are written and flushed before the next read.
+///   E1. Bytes after the last line feed are a line, unless there are none.
+/// - The answers to all lines read so far are written and flushed before the next read. No clause
+///   states this; tests check it.
 /// - The clock is read once for each line, and an operation is stored with that time.
-/// - If an allocation of a document call fails, the request is answered E10, changes nothing, and
-///   the run continues.
+/// - If an allocation of a document call fails, the request is answered E10, changes no document,
+///   and the run continues.
 /// - In the result, `lines` counts the lines and `steps` those that are requests.
 ///
 /// # Errors
 ///
 /// [`RunFault::OutOfMemory`] if another allocation fails, or the fault of a read or write that
 /// failed. The bytes written are then a prefix of the whole output.
+///
+/// ```
+/// let fetch = b"{\"a\":\"f\",\"c\":\"b\",\"d\":\"1\"}\n";
+/// let mut reader = CountingReader::new(fetch.as_slice());
+/// let mut writer = CountingWriter::new(Vec::new(alloc));
+/// let clock = ListClock::new(Vec::new(alloc));
+/// let counts = run_lines(alloc, &Table::new(alloc), clock, &mut reader, &mut writer)?;
+/// assert_eq!(rt; (counts.lines, counts.steps), (1, 1));
+/// ```
 pub fn run_lines<C: Clock + Drop, R: Source, W: Sink>(
     alloc: Global,
     table: &Table,

@@ -24,7 +24,7 @@ impl fmt::Display for SessionReport {
     }
 }
 
-/// Logs the begin of a session.
+/// Logs the start of a session.
 pub(crate) fn log_begin(rt: &impl Eprint, number: u64) {
     let _ = eprintln!(rt; "connection {number} begins: source \"s{number}\"");
 }

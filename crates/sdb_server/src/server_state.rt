@@ -23,14 +23,14 @@ use std::sync::{Arc, Mutex, Wait};
 use std::time::{Clock, Duration};
 use tungstenite::{CloseCode, NoMask, Role, WebSocket, WebSocketConfig};
 
-/// Maximal number of clients served at once.
+/// Maximum number of clients served at once.
 pub const CLIENT_LIMIT: usize = 64;
 
-/// Maximal number of connections in a handshake or refusal at once.
+/// Maximum number of connections in a handshake or refusal at once.
 pub(crate) const HANDSHAKE_LIMIT: usize = 64;
 
-// Size in bytes of a socket's read buffer, and of its write buffer before it is flushed within a
-// turn.
+// Size in bytes of a socket's read buffer, and of unsent output above which its write buffer is
+// sent before the next flush.
 const BUFFER_SIZE: usize = 16 * 1_024;
 
 // Default read timeout in milliseconds.
@@ -87,6 +87,13 @@ impl<R: Wait + Drop> ServerState<R> {
     /// # Errors
     ///
     /// [`AllocError`] if an allocation fails.
+    ///
+    /// ```
+    /// let (backend, mut host) = Backend::new(alloc, rt)?;
+    /// let state = ServerState::new(alloc, backend, Table::new(alloc))?.with_log(true);
+    /// let state = Arc::new(alloc, state)?;
+    /// listen(rt, alloc, &listener, &state, &mut host, Some(0))?;
+    /// ```
     pub fn new(
         alloc: Global,
         backend: Backend<R>,
@@ -110,7 +117,7 @@ impl<R: Wait + Drop> ServerState<R> {
         })
     }
 
-    /// Sets whether the begin and the end of each session are logged on standard error. The default
+    /// Sets whether the start and the end of each session are logged on standard error. The default
     /// is `false`.
     pub fn with_log(mut self, is_logging: bool) -> ServerState<R>
         ensures { result.backend ≡ self.backend }
@@ -158,7 +165,7 @@ impl<R: Wait + Drop> ServerState<R> {
         self.is_ending.store(false, Ordering::SeqCst);
     }
 
-    /// Starts no more sessions.
+    /// Makes the accept loop start no more sessions.
     pub(crate) fn stop_admitting(&self) {
         self.is_full.store(true, Ordering::SeqCst);
     }
@@ -168,7 +175,7 @@ impl<R: Wait + Drop> ServerState<R> {
         self.is_crowded.store(is_crowded, Ordering::SeqCst);
     }
 
-    /// Ends all sessions, and starts no more.
+    /// Makes all sessions end, and the accept loop start no more.
     pub(crate) fn end(&self, rt: &R) {
         self.is_ending.store(true, Ordering::SeqCst);
         self.stop_admitting();

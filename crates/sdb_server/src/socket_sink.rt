@@ -49,7 +49,7 @@ impl<'a, S> SocketSink<'a, S> {
     }
 }
 
-/// The contracts don't say what has reached the client, so `contents` is empty.
+/// No contract states what has reached the client, so `contents` is empty.
 impl<S: Read + Write + Drop> AnswerSink for SocketSink<'_, S> {
     ghost use Rattle.std.specs.Prelude.{[], ⊤};
 

@@ -86,7 +86,7 @@ impl<'a, R: Clock> InputWait<'a, R> {
         }
     }
 
-    // Registers the stream again, so that the poll reports input that is left.
+    // Registers the stream again, so that the poll reports the remaining input.
     fn request_wakeup<S: AsRawFd>(&mut self, stream: &S) -> io::Result<()> {
         let mut source = SourceFd(&stream.as_raw_fd());
         let registry = self.poll.registry();

@@ -26,9 +26,9 @@ const INPUT_CHUNK: usize = 4_096;
 /// The condition that ends the serving of clients.
 #[derive(Clone, Copy, PartialEq, Eq, Drop)]
 pub enum StopCondition {
-    /// No end.
+    /// No condition: the server runs until it is killed.
     Never,
-    /// The end of so many connections, from 1 to 1,000,000 on the command line.
+    /// The end of this number of connections; the command line permits 1 to 1,000,000.
     Served(u64),
     /// The end of standard input.
     Eof {
@@ -88,7 +88,7 @@ where
     }
 }
 
-// Serves so many connections, or without end if there is no number.
+// Serves this number of connections, or clients without end if it is `None`.
 fn serve_count<R>(
     rt: R,
     listener: &TcpListener,

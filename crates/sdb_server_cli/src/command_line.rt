@@ -102,7 +102,7 @@ fn projection_option<'a>(alloc: Global) -> Arg<'a> {
         .action(ArgAction::Append)
 }
 
-// Exactly one of `--lines` and `--listen` is required.
+// Creates the group of options of which exactly one is required: `--lines` and `--listen`.
 fn job_group<'a>(alloc: Global) -> Result<ArgGroup<'a>, AllocError> {
     let job = ArgGroup::new(alloc, "job").required(true);
     job.arg("lines")?.arg("listen")
@@ -119,7 +119,7 @@ pub enum RunMode {
         address: SocketAddr,
         /// The condition that ends the run.
         until: StopCondition,
-        /// Whether the begin and the end of each session are logged.
+        /// Whether the start and the end of each session are logged.
         is_logging: bool,
     },
 }
@@ -250,7 +250,7 @@ where
     Ok(print_refusal(rt, text.as_str())?)
 }
 
-/// Serves one session whose messages are the lines of the input, writes the responses to standard
+/// Serves one session whose messages are the lines of the input, writes the answers to standard
 /// output, and returns the exit status.
 pub fn answer_input<R, C, I>(rt: &R, clock: C, input: I, table: &Table) -> u8
 where

@@ -61,7 +61,7 @@ fn name_of(alloc: Global, text: &str) -> Result<String, ProjectionOptionError> {
     Ok(String::from_str(alloc, text)?)
 }
 
-// Skips empty fields.
+// Returns the fields, without empty ones.
 fn fields_of(alloc: Global, text: &str) -> Result<BTreeSet<String>, AllocError> {
     let mut fields = BTreeSet::new(alloc);
     for field in text.split(',') {

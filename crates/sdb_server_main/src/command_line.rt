@@ -95,7 +95,7 @@ fn addresses_and_stop_conditions_are_parsed(rt: HostRuntime) {
     }
 }
 
-// Appends a letter so many times.
+// Appends a letter `count` times.
 fn push_repeated(rt: &impl Abort, text: &mut String, letter: char, count: usize) {
     for _ in 0..count {
         text.push(letter).expect(rt, "out of memory");

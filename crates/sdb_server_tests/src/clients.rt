@@ -1,5 +1,5 @@
-//! WebSocket clients over TCP sockets, for the tests. Each failure, and each response other than
-//! the expected one, ends the test.
+//! WebSocket clients over TCP sockets, for the tests. Each failure, and each answer other than the
+//! expected one, ends the test.
 use std::alloc::Global;
 use std::net::{SocketAddr, TcpStream};
 use std::process::Abort;
@@ -102,7 +102,7 @@ pub(crate) fn send_text(abort: &impl Abort, alloc: Global, socket: &mut Client, 
     assert!(abort; socket.send(message).is_ok());
 }
 
-// Sends each text and requires the given response.
+// Sends each text and requires the given answer.
 pub(crate) fn exchange(
     abort: &impl Abort,
     alloc: Global,

@@ -134,7 +134,7 @@ fn edit_as_second_client(
     expect_text(abort, subscriber, OP_MESSAGE);
 }
 
-// Connects a client, again and again until it is served.
+// Connects a client, repeatedly until it is served.
 fn open_session_with_retry(
     abort: &impl Abort,
     rt: HostRuntime,
@@ -254,7 +254,7 @@ fn send_many_requests(
 const PLAIN_REQUEST: &[u8] = b"GET / HTTP/1.1\r\nHost: localhost\r\n\r\n";
 
 // Returns the response to an HTTP request without an upgrade.
-fn plain_response(
+fn plain_answer(
     abort: &impl Abort,
     rt: HostRuntime,
     alloc: Global,
@@ -274,7 +274,7 @@ fn expect_upgrade_required(
     alloc: Global,
     address: SocketAddr,
 ) {
-    let answer = plain_response(abort, rt, alloc, address);
+    let answer = plain_answer(abort, rt, alloc, address);
     let parts = answer.as_str().split_once("\r\n\r\n");
     let (head, body) = parts.expect(abort, "the end of the head");
     let length = format!(in alloc; "Content-Length: {}", body.len()).expect(abort, "out of memory");
@@ -347,7 +347,7 @@ impl ClientScenario {
 }
 
 // Covers edits by two clients, the limit of 64 clients and the reuse of slots. Also covers messages
-// of 1,048,576 bytes and of one byte more, the end of the server, and silent clients: they receive
+// of 1,048,576 bytes and of one byte more, the end of the server, and silent clients, which receive
 // operations at once, and pings.
 #[test]
 fn clients_are_served_over_sockets(rt: HostRuntime) {

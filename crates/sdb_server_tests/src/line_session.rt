@@ -1,5 +1,5 @@
-//! Tests of line sessions with failing streams and a list clock. Their other responses are tested
-//! by the lines of the program.
+//! Tests of line sessions with failing streams and a list clock. Their other answers are tested by
+//! the lines of the program.
 use sdb_lines::{CountingReader, CountingWriter, RunFault};
 use sdb_oplog::Moment;
 use sdb_projection::Table;
@@ -94,8 +94,7 @@ fn a_failed_stream_ends_the_run_after_a_prefix(rt: HostRuntime) {
     assert!(rt; fault.is_none() && written.as_slice() == COMPLETE_OUTPUT.as_bytes());
 }
 
-// Three submissions, the second with a clock reading below that of the first, and fetches by
-// timestamp.
+// Three submissions, the second with a clock reading below that of the first, and fetches by time.
 const TIMESTAMP_LINES: &str =
     r#"{"a":"op","c":"b","d":"1","src":"w","seq":1,"create":{"type":"json0","data":{"n":0}}}
 {"a":"op","c":"b","d":"1","src":"w","seq":2,"op":[{"p":["n"],"na":1}]}

@@ -65,7 +65,7 @@ pub(crate) fn receive_ping(
     assert!(abort; matches!(next_message(abort, &mut client), Message::Ping(_)));
 }
 
-// A client that sends a text and closes its sending side at once receives the response, and its
+// A client that sends a text and closes its sending side at once receives the answer, and its
 // session ends.
 pub(crate) fn end_after_a_message(
     abort: &impl Abort,

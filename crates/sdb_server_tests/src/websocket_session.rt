@@ -219,7 +219,7 @@ const BINARY_AND_TEXT: &[(u8, &str)] = &[(BINARY, SUBSCRIBE), (TEXT, SUBSCRIBE)]
 
 const ANSWERS_TO_BINARY_AND_TEXT: &[&str] = &[INIT, BADLY_FORMED, SUBSCRIBED];
 
-// An operation, a binary message, another operation, and a fetch by timestamp.
+// An operation, a binary message, another operation, and a fetch by time.
 const MESSAGES_AT_MOMENTS: &[(u8, &str)] = &[
     (TEXT, CREATE),
     (BINARY, SUBSCRIBE),
@@ -227,7 +227,7 @@ const MESSAGES_AT_MOMENTS: &[(u8, &str)] = &[
     (TEXT, FETCH_AT_100),
 ];
 
-// The last operation is later than the timestamp of the fetch.
+// The last operation is later than the `ts` of the fetch.
 const ANSWERS_AT_MOMENTS: &[&str] = &[
     INIT,
     r#"{"a":"op","c":"b","d":"1","seq":1,"src":"x","v":0}"#,

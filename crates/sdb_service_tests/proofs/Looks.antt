@@ -33,7 +33,7 @@ committed_stays logs new k a w now r (inl d) e h =
 committed_stays logs new k a w now r (inr d) e h =
     subst (λ (x : PlainAttempt). IsLook (new k) x) (sym e) (grown_stays logs new k a.submission now a d.2 h)
 
--- a look at the present log is valid
+-- a look at the current log is valid
 pub seen_now : (log : List PlainEntry) (s : PlainSubmission) (l : PlainLook) → l ≡ look_at log s
     → IsLook log (record { submission = s; look = l })
 seen_now log s l e = subst (λ (x : PlainLook). IsLook log (record { submission = s; look = x })) (sym e) (is_look_now log s)

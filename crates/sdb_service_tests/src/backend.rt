@@ -142,7 +142,7 @@ fn fetch_at_moment<R: Wait + Drop>(
     (fetched.version, counter_of(fetched.snapshot.as_ref()))
 }
 
-// An old version is replayed without the lock; the present one is a clone of the snapshot.
+// An old version is replayed without the lock; the current one is a clone of the snapshot.
 #[test]
 fn documents_are_fetched_at_moments(rt: HostRuntime) {
     let alloc = rt.alloc();

@@ -51,7 +51,7 @@ impl TestDocument {
         stored_version(&reply).expect(rt, "out of memory, or not stored");
     }
 
-    // Returns an edit with this source, sequence number and base version.
+    // Returns an edit with this source, seq and base version.
     fn edit(
         &self,
         rt: &impl Abort,
@@ -64,7 +64,7 @@ impl TestDocument {
         submission(rt, self.alloc, src, seq, version, edit, 0)
     }
 
-    // Stores an edit that adds 1 for each sequence number of the range.
+    // Stores an edit that adds 1 for each seq of the range.
     fn store_edits(&mut self, rt: &impl Abort, first: u64, last: u64) {
         for seq in first..=last {
             self.store(rt, self.edit(rt, ("x", seq), None, 1));
@@ -83,7 +83,7 @@ impl TestDocument {
         Attempt { submission, look }
     }
 
-    // Returns an edit with source y and base version 1, rebased to the present version.
+    // Returns an edit with source y and base version 1, rebased to the current version.
     fn rebased_edit(&self, rt: &impl Abort, amount: i64) -> Work
         ensures { IsSeen (plain_key self.now.key) self.now.shard result }
     {

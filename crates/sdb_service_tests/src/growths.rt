@@ -47,14 +47,14 @@ fn list_of_four(rt: &impl Abort, alloc: Global) -> TestDocument {
     document
 }
 
-// Returns the submission, rebased to the present version.
+// Returns the submission, rebased to the current version.
 fn rebase(rt: &impl Abort, document: &TestDocument, submission: Submission) -> Work
     ensures { IsSeen (plain_key document.now.key) document.now.shard result }
 {
     compute_work(rt, document.alloc, document.attempt(rt, submission))
 }
 
-// Returns an edit with base version 3, rebased to the present version.
+// Returns an edit with base version 3, rebased to the current version.
 fn rebase_late_insert(rt: &impl Abort, document: &TestDocument) -> Work
     ensures { IsSeen (plain_key document.now.key) document.now.shard result }
 {

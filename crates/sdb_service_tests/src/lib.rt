@@ -1,5 +1,5 @@
-//! Tests of the public functions of the libraries from `sdb_desk` upwards, one module for each
-//! library. They are a separate crate so that no library is proved again for its tests.
+//! Tests of the public functions of the libraries from `sdb_desk` on, one module for each library.
+//! They are a separate crate so that no library is proved again for its tests.
 #![tactic(auto)]
 
 #[cfg(test)]

@@ -1,5 +1,5 @@
-//! Tests of `sdb_session`: long responses, batches, and the number of entries per call of `pump`.
-//! The tests of the server cover the end of a session.
+//! Tests of `sdb_session`: long answers, batches, and the number of entries per call of `pump`. The
+//! tests of the server cover the end of a session.
 use crate::helpers::text;
 use sdb_desk::Shard;
 use sdb_oplog::Moment;
@@ -29,7 +29,7 @@ impl TestServer {
         }
     }
 
-    // Returns whether this text is the only response to the message.
+    // Returns whether this text is the only answer to the message.
     fn answers(&mut self, session: &mut Session, text: &str, wanted: &str) -> bool {
         match session.handle(&Solo, &mut self.shard, &self.table, text, Moment::zero()) {
             Ok(texts) => matches!(texts.as_slice(), [only] if only.as_str() == wanted),
@@ -37,8 +37,8 @@ impl TestServer {
         }
     }
 
-    // Returns the responses to the message.
-    fn responses(&mut self, rt: &impl Abort, session: &mut Session, text: &str) -> Vec<String> {
+    // Returns the answers to the message.
+    fn answers_to(&mut self, rt: &impl Abort, session: &mut Session, text: &str) -> Vec<String> {
         session
             .handle(&Solo, &mut self.shard, &self.table, text, Moment::zero())
             .ok()
@@ -89,7 +89,7 @@ fn store_long_text(rt: &impl Abort, alloc: Global, server: &mut TestServer, sess
     assert!(rt; server.answers(session, create.as_str(), created));
 }
 
-// Fetches that document and checks the response.
+// Fetches that document and checks the answer.
 fn fetch_long_text(rt: &impl Abort, alloc: Global, server: &mut TestServer, session: &mut Session) {
     let prefix = r#"{"a":"f","c":"b","d":"1","data":{"data":""#;
     let fetched = text_of_100_000(rt, alloc, prefix, r#"","v":1}}"#);
@@ -111,7 +111,7 @@ fn a_session_receives_entries_of_others(rt: HostRuntime) {
     fetch_long_text(&rt, rt.alloc(), &mut server, &mut second);
 }
 
-// Stores an edit that adds 1 for each sequence number of the range.
+// Stores an edit that adds 1 for each seq of the range.
 fn store_edits(
     rt: &impl Abort,
     alloc: Global,
@@ -123,7 +123,7 @@ fn store_edits(
     let add = r#"{"a":"op","c":"b","d":"1","v":null,"op":[{"p":[],"na":1}],"seq":"#;
     for seq in from..=to {
         let edit = format!(in alloc; "{add}{seq}}}").expect(rt, "out of memory");
-        assert!(rt; server.responses(rt, session, edit.as_str()).len() == 1);
+        assert!(rt; server.answers_to(rt, session, edit.as_str()).len() == 1);
     }
 }
 
@@ -141,14 +141,14 @@ fn assert_list(
         rt,
         "out of memory",
     );
-    let all = server.responses(rt, session, all.as_str());
+    let all = server.answers_to(rt, session, all.as_str());
     assert!(rt; all.len().saturating_sub(1) == length);
     for from in [1, length / 2, length.saturating_sub(1)] {
         let rest = format!(in alloc; r#"{{"a":"f","c":"b","d":"1","v":{from}}}"#).expect(
             rt,
             "out of memory",
         );
-        let rest = server.responses(rt, session, rest.as_str());
+        let rest = server.answers_to(rt, session, rest.as_str());
         assert!(rt; rest.len() == all.len().saturating_sub(from));
         assert!(rt; rest.first() == all.get(from));
     }
@@ -161,7 +161,7 @@ fn long_lists_are_written_in_batches(rt: HostRuntime) {
     let mut server = TestServer::new(alloc);
     let mut session = new_session(&rt, alloc, "s1");
     let create = r#"{"a":"op","c":"b","d":"1","seq":1,"create":{"type":"json0","data":0}}"#;
-    assert!(rt; server.responses(&rt, &mut session, create).len() == 1);
+    assert!(rt; server.answers_to(&rt, &mut session, create).len() == 1);
     let mut length: u64 = 1;
     for wanted in [1_023, 1_024, 1_025, 2_049] {
         store_edits(
@@ -180,7 +180,7 @@ fn long_lists_are_written_in_batches(rt: HostRuntime) {
     }
 }
 
-// Stores an edit for each of 20 sources, after `before` earlier ones, and checks that each response
+// Stores an edit for each of 20 sources, after `before` earlier ones, and checks that each answer
 // names its source.
 fn store_edits_of_sources(
     rt: &impl Abort,
@@ -203,14 +203,14 @@ fn store_edits_of_sources(
     }
 }
 
-// There are more sources than names in the cache of a session.
+// There are more sources than a session interns.
 #[test]
 fn each_acknowledgement_names_its_source(rt: HostRuntime) {
     let alloc = rt.alloc();
     let mut server = TestServer::new(alloc);
     let mut session = new_session(&rt, alloc, "s1");
     let create = r#"{"a":"op","c":"b","d":"1","seq":1,"create":{"type":"json0","data":0}}"#;
-    assert!(rt; server.responses(&rt, &mut session, create).len() == 1);
+    assert!(rt; server.answers_to(&rt, &mut session, create).len() == 1);
     store_edits_of_sources(&rt, alloc, &mut server, &mut session, 0);
     store_edits_of_sources(&rt, alloc, &mut server, &mut session, 20);
 }

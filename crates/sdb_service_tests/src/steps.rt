@@ -24,7 +24,7 @@ const THREE_STEPS: [&str; 3] = [
     r#"{"s":9,"do":"fetch","c":"b","d":"1"}"#,
 ];
 
-// Returns whether these are the responses to the three steps.
+// Returns whether these are the answers to the three steps.
 fn are_answers_to_three(answers: &[StepAnswer]) -> bool {
     match answers {
         [

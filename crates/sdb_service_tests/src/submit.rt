@@ -68,7 +68,7 @@ impl Desk for ContendedStore {
 
     ghost pass_number = { λ d p. 0 };
 
-    // a step of the machine, at some logs and queues
+    // A step of the machine, at some logs and queues.
     ghost step = { λ d k c p a q.
         (l : Logs) × ((n : QueuesByKey) × MachineStep 0 (record { logs = l; queues = n }) k c a (machine_of q.shard)) };
 

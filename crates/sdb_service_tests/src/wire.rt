@@ -1,5 +1,5 @@
-//! Tests of `sdb_wire`: functions that no program calls, and responses that their lines cannot
-//! cover. The lines of the two programs test the rest.
+//! Tests of `sdb_wire`: functions that no program calls, and answers that their lines cannot cover.
+//! The lines of the two programs test the rest.
 use crate::helpers::{content, key, submission, text};
 use sdb_oplog::{Code, Content, Entry, Moment};
 use sdb_wire::{
@@ -41,13 +41,13 @@ fn messages_are_parsed_up_to_the_limit(rt: HostRuntime) {
     }
 }
 
-// Returns whether this text is the response for the error.
+// Returns whether this text is the answer for the error.
 fn is_error_text(rt: &impl Abort, alloc: Global, echo: &Echo, code: Code, wanted: &str) -> bool {
     let message = reply_text(alloc, &Answer::Failed { echo, code }).expect(rt, "out of memory");
     message.as_str() == wanted
 }
 
-// Returns whether the text is refused with this response.
+// Returns whether the text is refused with this answer.
 fn is_refused(rt: &impl Abort, alloc: Global, text: &str, wanted: &str) -> bool {
     match read_message(alloc, text) {
         Ok(_) => false,
@@ -58,7 +58,7 @@ fn is_refused(rt: &impl Abort, alloc: Global, text: &str, wanted: &str) -> bool 
 const BADLY_FORMED: &str =
     r#"{"a":"f","c":"b","error":{"code":"ERR_MESSAGE_BADLY_FORMED","message":"message is badly formed"},"id":7}"#;
 
-// The response after a failed allocation, which the lines of the programs do not cover.
+// The answer after a failed allocation, which the lines of the programs do not cover.
 const OUT_OF_MEMORY: &str = r#"{"error":{"code":"ERR_OUT_OF_MEMORY","message":"out of memory"}}"#;
 
 #[test]
@@ -70,8 +70,7 @@ fn errors_have_a_code_and_a_message(rt: HostRuntime) {
     );
 }
 
-// Returns whether the entry at version 4 with this content, source x and sequence number 7 has this
-// JSON value.
+// Returns whether the entry at version 4 with this content, source x and seq 7 has this JSON value.
 fn has_entry_value(rt: &impl Abort, alloc: Global, content: Content, wanted: &str) -> bool {
     let arrived = submission(rt, alloc, "x", 7, None, content, 7);
     let value = entry_value(alloc, &Entry::new(4, Moment::zero(), None, arrived)).expect(
@@ -110,8 +109,8 @@ fn entry_that_creates(rt: &impl Abort, alloc: Global, version: u64) -> Entry {
     Entry::new(version, Moment::zero(), None, submission)
 }
 
-// The cached text of an op message is the text of the message, and belongs to no other entry or
-// document.
+// The cached text of an operation message is the text of the message, and belongs to no other entry
+// or document.
 #[test]
 fn a_cached_op_text_belongs_to_its_entry(rt: HostRuntime) {
     let alloc = rt.alloc();

@@ -46,7 +46,6 @@ module _ {P : Type 0} (acts : CallRelation P) where
       let A : ℕ → Type 0 = λ i. acts (ops_between i (i + x.size)) m (Some x.entries) q in
       (o, (first, reads_more (v + y.size) xs x o m q more (subst A n one)))
 
-  -- by the bounds of the last batch
   pub reads_up_to : (v next end : ℕ) (xs : List PlainBatch) (size : ℕ) (es : List PlainEntry) (p m q : P)
       → ReadsBatches acts v xs p m → next ≡ v + total_size xs → end ≡ next + size → acts (ops_between next end) m (Some es) q
       → ReadsBatches acts v (xs ++ record { size = size; entries = es } ∷ []) p q
@@ -76,7 +75,7 @@ came_none (Some None) is = cc
 -- ---- answers
 
 module _ {A : Type 0} (f : PlainAnswer → List A) (old mid new : List A) where
-  -- appended to earlier answers
+  -- answers appended to earlier ones
   pub output_after : {B E : Type 0} (r : Result B E) (a b : List PlainAnswer) → WroteAnswers f old mid a → OutputUnlessFailed r (WroteAnswers f mid new) b
       → OutputUnlessFailed r (WroteAnswers f old new) (a ++ b)
   output_after (Ok x) a b first last = pieces_more f old mid new a b first last
@@ -165,7 +164,7 @@ none_output f o k old new xs h e = h ∙ ap (λ l. old ++ answer_items f (entry_
 -- ---- a new queue
 
 module _ {P : Type 0} (acts : PlainKey → CallRelation P) where
-  -- its first entries are those read
+  -- the first entries of a new queue are those read
   pub begins_by : {A : Type 0} (b : PlainKey) (v : Option ℕ) (o : PlainSubscribeResult) (count : ℕ) (says : List PlainEntry → Type 0)
       (p q : P) (r : Result A BatchFault) → count ≡ first_batch_len v o.version → TakeOutcome (acts b) o.id count says p r q
       → FirstTakeOutcome acts b v o says p r q
@@ -174,7 +173,7 @@ module _ {P : Type 0} (acts : PlainKey → CallRelation P) where
   begins_by b v o count says p q (Err (Refused code)) is (due, wants, said) = (due, inr wants, said)
   begins_by b v o count says p q (Err (OutOfMemory e)) is h = h
 
-  -- it is closed again
+  -- a new queue is closed again after a failed allocation
   pub unjoined_by : (b : PlainKey) (v : Option ℕ) (old : Option QueueId) (o : PlainSubscribeResult) (says : List PlainEntry → Type 0)
       (p m n q : P) (f : BatchFault) → acts b (subscribe_call v) p (Ok o) m → FirstTakeFailed acts b v o says m f n
       → acts b (unsubscribe_call o.id) n tt q → SubscribeFailed acts b v old says p f q

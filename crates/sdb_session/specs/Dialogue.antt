@@ -185,7 +185,7 @@ transition_of_line t s now w None = record { answers = failed empty_echo E1 ∷ 
 
 -- ---- pumps
 
--- maximal number of entries read from one queue after a line
+-- maximum number of entries read from one queue after a line
 abbrev pub take_limit : ℕ
 take_limit = 64
 

@@ -213,8 +213,8 @@ module _ {P : Type 0} (acts : PlainKey → CallRelation P) where
   abbrev pub TextInterrupted : List ℕ → List PlainProjection → P → P → Type 0
   TextInterrupted text t p q = MessageInterrupted t (parse_message text).request p q
 
--- the outcome of a call; after an allocation failure nothing was done, or it was interrupted, or all was done except
--- the answers
+-- the outcome of a call; after an allocation failure nothing was called, or the calls were interrupted, or all were
+-- made and not all answers were written
 abbrev pub OutcomeOrInterrupted : {R E S P : Type 0} → Result R E → ((List PlainAnswer → Type 0) → S → P → Type 0) → (P → P → Type 0)
     → (List PlainAnswer → Type 0) → S → P → S → P → Type 0
 OutcomeOrInterrupted (Ok x) done breaks says s p new q = done says new q

@@ -36,7 +36,7 @@ abbrev pub remove_subscription : PlainKey → List PlainSubscription → List Pl
 remove_subscription k [] = []
 remove_subscription k (s ∷ subs) = if document_keys_equal k s.key then subs else s ∷ remove_subscription k subs
 
--- maximal number of subscriptions of one session
+-- maximum number of subscriptions of one session
 abbrev pub subscription_limit : ℕ
 subscription_limit = 64
 

@@ -35,7 +35,7 @@ plain_session s = record { source = string_bytes s.source; subs = map plain_subs
 abbrev pub has_ended : Session → Bool
 has_ended s = is_some s.ended
 
--- the echo of a message, as an error shows it
+-- the echo of a message, as an error repeats it
 abbrev pub echo_of_message : Option (Bor JsonTree) → PlainEcho
 echo_of_message m = echo_or_empty (option_map (λ v. v.now) m)
 

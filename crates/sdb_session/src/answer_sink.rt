@@ -22,7 +22,7 @@ pub trait AnswerSink {
     ///
     /// # Errors
     ///
-    /// [`AllocError`] if an allocation fails. The contents are then unspecified.
+    /// [`AllocError`] if an allocation fails. `contents` is then unspecified.
     fn write(&mut self, alloc: Global, answer: &Answer<'_>) -> Result<(), AllocError>
         ensures { OnOk result (contents self.new ≡ contents self.old ++ items (plain_answer answer.now)) };
 }

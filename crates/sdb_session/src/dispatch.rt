@@ -276,7 +276,7 @@ impl Session {
         )
     }
 
-    // A message without a source has the session's.
+    // Creates a message's submission. Without a source it gets the session's.
     fn submission(&mut self, key: &Key, sent: SubmitArgs, by: u64) -> Result<Submission, AllocError>
         ensures submission { IfOk result (λ s. s ≡ submission_of (plain_session self.old) (plain_key key.now)
             sent.version sent.seq (option_map string_bytes sent.src) sent.content by) }

@@ -5,7 +5,7 @@ ghost use Rattle.std.specs.Prelude.{◌≡◌, IfOk, IfSome, string_bytes};
 use std::alloc::{AllocError, Global};
 use std::sync::Arc;
 
-// Maximal number of names.
+// Maximum number of names.
 const NAME_SLOTS: usize = 16;
 
 // The names used recently.

@@ -16,7 +16,7 @@ use sdb_submit::Desk;
 use sdb_subscribe::SubId;
 use std::alloc::{AllocError, Global};
 
-// Maximal number of entries read from a desk at once.
+// Maximum number of entries read from a desk at once.
 const BATCH_LIMIT: u64 = 1_024;
 
 // The reason why a listing failed.

@@ -13,7 +13,7 @@ const SLOT_COUNT: usize = 8;
 
 const SHARD_COUNT: usize = 8;
 
-// Maximal length in bytes of a cached text.
+// Maximum length in bytes of a cached text.
 const TEXT_LIMIT: usize = 4_096;
 
 /// A cache of the messages of recent operations, so that each is rendered once and copied for other

@@ -30,6 +30,12 @@ impl Session {
     /// # Errors
     ///
     /// [`Ended`] if an allocation fails or the session had ended.
+    ///
+    /// ```
+    /// // Another session has stored an operation in a document that this one is subscribed to.
+    /// let pumped = session.pump(&Solo, &mut shard, &table, 64)?;
+    /// assert_eq!(rt; (pumped.taken, pumped.texts.len()), (1, 1));
+    /// ```
     pub fn pump<D: Desk>(
         &mut self,
         desk: &D,

@@ -21,10 +21,10 @@ use sdb_wire::{Answer, Message, empty_echo, parse_message, reply_text};
 use std::alloc::{AllocError, Global};
 use std::sync::Arc;
 
-/// Maximal number of subscriptions of one session.
+/// Maximum number of subscriptions of one session.
 pub const SUBSCRIPTION_LIMIT: usize = 64;
 
-// Maximal length in bytes of a message whose scratch memory is kept.
+// Maximum length in bytes of a message whose scratch memory is kept.
 const SCRATCH_LIMIT: usize = 4_096;
 
 /// The state of a session that failed to allocate for a message, a name or an answer.
@@ -57,6 +57,11 @@ pub struct Session {
 impl Session {
     /// Creates a session with a source and without subscriptions. The source has 1 to 200 bytes; a
     /// client may replace it.
+    ///
+    /// ```
+    /// let session = Session::new(alloc, String::from_str(alloc, "s1")?);
+    /// assert!(rt; session.opening()?.as_str().starts_with(r#"{"a":"init","id":"s1""#));
+    /// ```
     pub fn new(alloc: Global, id: String) -> Session
         ensures source { (plain_session result).source ≡ string_bytes id }
         ensures subs { (plain_session result).subs ≡ [] }
@@ -127,6 +132,14 @@ impl Session {
     /// # Errors
     ///
     /// [`Ended`] if an allocation fails outside the desk or the session had ended.
+    ///
+    /// ```
+    /// let (mut shard, table) = (Shard::new(alloc), Table::new(alloc));
+    /// let text = r#"{"a":"f","c":"b","d":"1"}"#;
+    /// let texts = session.handle(&Solo, &mut shard, &table, text, Moment::zero())?;
+    /// let answer = r#"{"a":"f","c":"b","d":"1","data":{"type":null,"v":0}}"#;
+    /// assert!(rt; texts.iter().all(|text| text.as_str() == answer));
+    /// ```
     pub fn handle<D: Desk>(
         &mut self,
         desk: &D,
@@ -160,13 +173,13 @@ impl Session {
     /// Writes the answers to one message, in order, and returns whether it is a request. An
     /// operation is stored with the time `now`.
     ///
-    /// If an allocation of a desk call fails, the message is answered E10 and changes nothing,
-    /// except that a queue number may be used up.
+    /// If an allocation of a desk call fails, the message is answered E10 and changes no log. A
+    /// queue number may be used up.
     ///
     /// # Errors
     ///
     /// [`Ended`] if an allocation fails for a parsed message, a name or an answer, or if the
-    /// session had ended. Each later call fails too. What was stored stays stored, and `out` is
+    /// session had ended. Each later call fails too. Stored operations stay stored, and `out` is
     /// unspecified.
     pub fn handle_to<D: Desk, O: AnswerSink>(
         &mut self,
@@ -186,8 +199,8 @@ impl Session {
         // An ended session doesn't call the desk.
         ensures no_call_after_end { has_ended self.old ≡ true →
             (pass.new ≡ pass.old) × (plain_session self.new ≡ plain_session self.old) }
-        // After an error nothing was done, or all except the answers, or a listing was interrupted.
-        // A queue opened for it is then closed again.
+        // After an error nothing was called, or a listing was interrupted, or all calls were made
+        // and not all answers were written. A queue opened for the message is then closed again.
         ensures outcome { OutcomeOrInterrupted result
             (TextOutcome (D.step desk.now) text.now table.now (D.pass_number desk.now pass.old) now
             (plain_session self.old) pass.old)

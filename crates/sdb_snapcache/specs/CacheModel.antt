@@ -28,11 +28,11 @@ abbrev pub without_version : ℕ → List Snapshot → List Snapshot
 without_version v [] = []
 without_version v (s ∷ cached) = cond (nat_eq v s.version) cached (s ∷ without_version v cached)
 
--- the snapshot of this version moves to the front
+-- the snapshot of this version becomes the first, the most recently used
 abbrev pub promote_version : ℕ → List Snapshot → List Snapshot
 promote_version v cached = option_map_or (λ s. s ∷ without_version v cached) (snapshot_at_version v cached) cached
 
--- the snapshot found for v moves to the front
+-- the snapshot found for v becomes the first
 abbrev pub promote_nearest : ℕ → List Snapshot → List Snapshot
 promote_nearest v cached = option_map_or (λ s. promote_version s.version cached) (nearest v cached) cached
 

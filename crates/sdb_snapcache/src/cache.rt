@@ -13,15 +13,22 @@ use std::alloc::{AllocError, Global};
 use std::marker::Model;
 use std::num::NonZeroUsize;
 
-/// Maximal number of cached snapshots.
+/// Maximum number of cached snapshots.
 pub const CACHE_CAPACITY: usize = 8;
 
-/// A cache of at most [`CACHE_CAPACITY`] snapshots of one document at different versions, least
-/// recently used first out.
+/// A cache of at most [`CACHE_CAPACITY`] snapshots of one document at different versions. The least
+/// recently used one is evicted.
+///
+/// ```
+/// let mut cache = Cache::new(alloc);
+/// cache.offer(3, Json::Bool(true))?;
+/// assert!(rt; matches!(cache.nearest(5), Some((3, Json::Bool(true)))));
+/// assert!(rt; cache.nearest(2).is_none());
+/// ```
 #[derive(Drop)]
 pub struct Cache {
     alloc: Global,
-    // `None` before the first snapshot
+    // `None` before the first snapshot.
     snapshots: Option<LruCache<u64, Json>>,
 }
 
@@ -131,7 +138,7 @@ fn cache_capacity() -> NonZeroUsize
     NonZeroUsize::new(CACHE_CAPACITY).unwrap()
 }
 
-// Inserts a snapshot at the front. If an allocation fails, all is unchanged.
+// Inserts a snapshot as the most recently used one. If an allocation fails, the cache is unchanged.
 fn insert(cached: &mut LruCache<u64, Json>, version: u64, value: Json) -> Result<(), AllocError>
     requires { HasCapacityEight cached.old }
     ensures ok { OnOk result

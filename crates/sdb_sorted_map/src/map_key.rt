@@ -6,7 +6,7 @@ use sdb_chunks::TryClone;
 use std::alloc::{AllocError, Global};
 use std::str;
 
-// Maximal length in bytes of an inline key. A UUID has 36 bytes, and with 39 a key has a size of 48
+// Maximum length in bytes of an inline key. A UUID has 36 bytes, and with 39 a key has a size of 48
 // bytes.
 const INLINE_LEN: usize = 39;
 

@@ -18,6 +18,13 @@ use std::alloc::{AllocError, Global};
 use std::collections::BTreeMap;
 
 /// A map sorted by the bytes of its keys, in one chunked list of entries.
+///
+/// ```
+/// // `Number` implements `TryClone`.
+/// let mut map = SortedMap::new(alloc);
+/// let old = map.insert(alloc, String::from_str(alloc, "a")?, Number(7))?;
+/// assert!(rt; old.is_none() && map.get("a").map(|number| number.0) == Some(7));
+/// ```
 #[derive(Drop)]
 pub struct SortedMap<V> {
     entries: ChunkedVec<MapEntry<V>>,

@@ -59,7 +59,7 @@ record ContinuesAfterStep (f : PlainKey → Option QueuePosition) (act : StepKin
   pub tracks : (j : PlainKey) → position_after_step j act a (f j) ≡ y.queues j
   pub continued : ContinuesFromPosition end f act a
 
--- after an effect
+-- the statement for one step, by the step's effect
 abbrev EffectContinues : OneStep → (PlainKey → Option QueuePosition) → StepKind → Effect → Logs → Type 0
 EffectContinues m f act (event e y) end = ContinuesAfterStep f act (reply_answer (machine.reply_to_event m e)) y end
 EffectContinues m f act (notice n y) end = ContinuesAfterStep f act (notice_answer n) y end
@@ -94,7 +94,7 @@ preserves_commit : (m : OneStep) (f : PlainKey → Option QueuePosition) (x : Se
 preserves_commit m f x now None end t = record { tracks = t; continued = tt }
 preserves_commit m f x now (Some a) end t = preserves_tried m f x now a (plain.is_deciding m a) end t
 
--- at k or at another key
+-- equal values of another key stay equal, whatever the value at k
 put_same : (b : Bool) (p o u : Option QueuePosition) → o ≡ u → cond b p o ≡ cond b p u
 put_same true p o u e = refl
 put_same false p o u e = e

@@ -63,7 +63,7 @@ run_leaves_logs s t input text new fresh h =
     let l = legal_run steps r.answers (one_step_of_world t.world) (sessions_of t.world) all in
     record { answers = r.answers; events = l.0; sessions = sessions_of t.world; picks = l.1; legal = l.2 }
 
--- the output is unchanged
+-- without answers the output is unchanged
 pub nothing_written : (s t : SilentRunner) (input : List (Option (List ℕ))) (old new : Option (List ℕ)) → AppendsAnswers WorldTakesLine s input t [] old new → Appends old new []
 nothing_written s t input old new h = subst (Appends old new) (run_without_answers s t input h.bytes h.run).nothing h.wrote
 
@@ -76,7 +76,7 @@ unwritten_prefix s input old new h =
     let (bytes, w, (rest, is)) = h.wrote in
     inl (subst (Appends old new) (prefix_none bytes rest (sym (run_without_answers s h.last h.taken h.bytes h.run).nothing ∙ is)) w)
 
--- the dump is appended to it
+-- the dump is appended to the output
 pub dump_written : (s t : SilentRunner) (input : List (Option (List ℕ))) (old mid new : Option (List ℕ)) (n : ℕ) → one_step_of_world s.world ≡ empty_machine → sessions_of s.world ≡ empty_sessions → AppendsAnswers WorldTakesLine s input t [] old mid
     → WroteDump (one_step_of_world t.world).logs mid new → HasEntryCount (one_step_of_world t.world).logs n → WroteWorldDump input old new n
 dump_written s t input old mid new n first fresh h (text, is, w) counted = record {
@@ -97,7 +97,7 @@ dumped_prefix s t input old mid new first fresh h (inr (text, is, (bytes, w, fro
 
 -- ---- faults
 
--- a statement that holds except for an error holds for a success
+-- a result with a property unless it is this error has it if it is a success
 no_error : {A E P : Type 0} {x : A} {e : E} → P ⊎ (◌≡◌ {A = Result A E} (Ok x) (Err e)) → P
 no_error (inl p) = p
 no_error (inr q) = cc

@@ -80,7 +80,7 @@ record PlacedAfterStep (b : Option BegunSubmission) (act : StepKind) (a : PlainS
   pub tracks : TracksBegun (begun_after_step act a b) y
   pub placed : IsPlacedAt end b act a
 
--- after an effect
+-- the statement for one step, by the step's effect
 abbrev EffectPlaces : OneStep → Option BegunSubmission → StepKind → Effect → Logs → Type 0
 EffectPlaces m b act (event e y) end = ExtendsTo (machine_after_event m e) end → PlacedAfterStep b act (reply_answer (machine.reply_to_event m e)) y end
 EffectPlaces m b act (notice n y) end = PlacedAfterStep b act (notice_answer n) y end

@@ -69,7 +69,7 @@ SessionHasTaken m x k es = (q : QueuePosition) → x.queues k ≡ Some q → Has
 taken_of_extension : (m : OneStep) (e : Event) (x : SessionState) (k : PlainKey) (es : List PlainEntry) → SessionHasTaken m x k es → SessionHasTaken (machine_after_event m e) x k es
 taken_of_extension m e x k es h q is = on_grown (m.logs k) ((machine_after_event m e).logs k) q es (grows_next m e k) (h q is)
 
--- an effect that opens and advances no queue
+-- an effect that neither opens nor advances a queue
 abbrev QueuesUnchanged : SessionState → SessionState → Type 0
 QueuesUnchanged x y = (k : PlainKey) (q : QueuePosition) → y.queues k ≡ Some q → x.queues k ≡ Some q
 

@@ -11,7 +11,7 @@ use Rattle.sdb_steps.specs.OneStep.{OneStep, Event, empty_machine, machine_after
 use Rattle.sdb_steps.specs.Picks as plain
 use Rattle.sdb_steps.specs.Picks.{PlainOpenAttempt, SessionState, SessionStates, StepKind, PlainSessionStep, PlainStepAnswer, reply_answer, notice_answer, out_of_memory, Effect, event, notice, effect, IsEffectOutcome, PicksOne, PicksAfter, Picks, empty_sessions, with_session, with_attempt}
 
--- the attempt, if there is one
+-- the attempt, if there is one, has had at most eight tries
 abbrev TriesInRange : Option PlainOpenAttempt → Type 0
 TriesInRange o = (a : PlainOpenAttempt) → o ≡ Some a → a.tries < 9
 
@@ -21,7 +21,7 @@ tries_none a is = cc
 tries_some : (b : PlainOpenAttempt) → b.tries < 9 → TriesInRange (Some b)
 tries_some b h a is = let e : b ≡ a = cc in subst (λ (x : PlainOpenAttempt). x.tries < 9) e h
 
--- the session's attempt after an effect
+-- so has the session's attempt after an effect
 abbrev TriesInRangeAfter : Effect → Type 0
 TriesInRangeAfter (event e y) = TriesInRange y.attempt
 TriesInRangeAfter (notice a y) = TriesInRange y.attempt

@@ -23,7 +23,7 @@ AttemptBegins m k s out_of_memory o = o ≡ None
 AttemptBegins m k s (notice_answer began) o = o ≡ Some (open_attempt m k s)
 AttemptBegins m k s answer o = ⊥
 
--- an attempt is worked, once, unless an allocation failed
+-- the work of an attempt is computed, once, unless an allocation failed
 abbrev pub AttemptWorks : PlainOpenAttempt → PlainStepAnswer → PlainOpenAttempt → Type 0
 AttemptWorks a out_of_memory b = (a.is_worked ≡ false) × (b ≡ a)
 AttemptWorks a (notice_answer worked) b = (a.is_worked ≡ false) × (b ≡ mark_worked a)

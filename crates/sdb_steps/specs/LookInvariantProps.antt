@@ -1,4 +1,4 @@
--- Statements about looks are propositions: they have at most one proof.
+-- Facts of looks are propositions: each has at most one proof.
 use Rattle.std.specs.Prelude.{◌≡◌, ℕ, List, Option, Some, None, slice_get}
 use Rattle.std.specs.Coded.{Coded-set, Π_prop, Unit-prop, le_prop}
 use Rattle.sdb_oplog.specs.Keys.{Logs, plain_key}

@@ -1,4 +1,4 @@
-//! Attempts: a submission with its look, worked and committed.
+//! Attempts: a submission with its look, its work and its commits.
 ghost use Rattle.std.specs.Prelude.{◌≡◌, ◌<◌, ℕ, true, Some, IfOk, IfErr, IsTrue, IsFalse, option_map, false};
 ghost use Rattle.sdb_oplog.specs.Decide.{refused};
 ghost use Rattle.sdb_oplog.specs.declared.codes.Code.TheVariants.{E10};
@@ -99,7 +99,8 @@ impl OpenAttempt {
         (StepAnswer::Decided(reply), None)
     }
 
-    // Works the attempt, once. If an allocation fails, the attempt is unchanged.
+    // Computes the attempt's work, unless it has one. If an allocation fails, the attempt is
+    // unchanged.
     pub(crate) fn work(self, alloc: Global) -> (StepAnswer, OpenAttempt)
         ensures works { AttemptWorks (plain_open_attempt self) (plain_step_answer result.0)
             (plain_open_attempt result.1) }
@@ -142,8 +143,8 @@ fn is_worked(phase: &Phase) -> bool
     }
 }
 
-// Works a phase. If an allocation fails, the phase is unchanged, except that a work for an older
-// look is discarded.
+// Computes the work of a phase. If an allocation fails, the phase is unchanged, except that a work
+// for an older look is discarded.
 fn worked(alloc: Global, phase: Phase) -> Result<Work, Phase>
     ensures submission { IfOk result (λ w. w.submission ≡ submission_in phase) }
     ensures version { IfOk result (λ w. w.look.version ≡ look_version phase) }
@@ -230,7 +231,7 @@ fn is_out_of_memory(reply: &Reply) -> bool
     }
 }
 
-// Returns the phase before the commit: worked, or only looked at.
+// Returns the phase before the commit: with its work, or with its look only.
 fn restore_attempt(work: Work, is_worked: bool) -> Phase
     ensures attempt { attempt_in result ≡ work }
     ensures plain { (k : PlainKey) (n : ℕ) → attempt_at k result n ≡ record {

@@ -63,8 +63,9 @@ pub fn stored_once()
     ensures { (log : List PlainEntry) → IsMade log → are_identifiers_new [] log ≡ true }
 {}
 
-/// States that a resent operation is answered with its first version and changes nothing, whatever
-/// its content, version and moment and whatever was stored since.
+/// States that a resent operation is answered with its first version and changes nothing. This
+/// holds for any content, base version and moment that it is resent with, and for any entries
+/// stored since.
 pub fn resent()
     ensures { (log missed more : List PlainEntry) (s again : PlainSubmission) (now later v : ℕ) →
         (decide log s now).reply ≡ stored v missed → again.src ≡ s.src → again.seq ≡ s.seq →
@@ -72,8 +73,7 @@ pub fn resent()
         record { reply = repeated v; log = (decide log s now).log ++ more } }
 {}
 
-/// States that a submission with the source and seq of an entry is answered with the entry's
-/// version and changes nothing.
+/// States that a duplicate is answered with its entry's version and changes nothing.
 pub fn repeats_are_answered()
     ensures { (before later : List PlainEntry) (e : PlainEntry) (again : PlainSubmission) (now : ℕ) →
         IsMade (before ++ e ∷ later) → again.src ≡ e.arrived.src → again.seq ≡ e.arrived.seq →

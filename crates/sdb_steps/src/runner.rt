@@ -43,6 +43,12 @@ pub struct Ran {
 /// # Errors
 ///
 /// [`AllocError`] if an allocation for the world or for the list of answers fails.
+///
+/// ```
+/// let step = read_step(alloc, r#"{"s":0,"do":"commit"}"#)?;
+/// let ran = run_steps(alloc, &[step])?;
+/// assert!(rt; matches!(ran.answers.as_slice(), [StepAnswer::Idle]));
+/// ```
 pub fn run_steps(alloc: Global, steps: &[Step]) -> Result<Ran, AllocError>
     // Replies and logs are those of the reference machine, which executes each submission
     // atomically at its deciding commit.
@@ -72,8 +78,7 @@ pub fn run_steps(alloc: Global, steps: &[Step]) -> Result<Ran, AllocError>
     ensures continued { IfOk result (λ ran.
         TakesContinue (map plain_session_step steps.now) (map plain_step_answer ran.answers.items)
         (one_step_of_world ran.world).logs) }
-    // States that each open queue has read the entries from its start on, in order and without
-    // gaps.
+    // Each open queue has read the entries from its start on, in order and without gaps.
     ensures taken { IfOk result (λ ran.
         QueuesTakeAll (map plain_session_step steps.now) (map plain_step_answer ran.answers.items)
         (sessions_of ran.world)
@@ -140,13 +145,13 @@ fn write_unreadable(alloc: Global, code: Code, out: &mut Vec<u8>) -> Result<(), 
 /// it is refused with its code.
 ///
 /// - An empty line, a line that isn't UTF-8 and a line of more than 1,048,576 bytes are answered
-///   E1. Trailing bytes without a line feed are a line if there are any.
-/// - The answers to all that was read are written and flushed before the next read. No clause
+///   E1. Bytes after the last line feed are a line, unless there are none.
+/// - The answers to all lines read so far are written and flushed before the next read. No clause
 ///   states this; tests check it.
 /// - At most 2^40 reads are made.
-/// - The clauses state the bytes written if the reader and the writer know their bytes, as a slice
-///   and a vector do.
-/// - A step that fails to allocate is answered E10, changes nothing, and the run continues.
+/// - The clauses state the bytes written if the reader and the writer reveal their bytes, as a
+///   slice and a vector do.
+/// - A step that fails to allocate is answered E10 and changes nothing, and the run continues.
 /// - In the result, `lines` counts the lines and `steps` those that are steps.
 ///
 /// # Errors

@@ -32,7 +32,7 @@ impl Session {
         }
     }
 
-    // Works the attempt.
+    // Computes the attempt's work.
     pub(crate) fn work(&mut self, alloc: Global) -> StepAnswer
         ensures dispatches { (i : ℕ) (m : OneStep) (q : QueuesByKey) →
             DispatchesAct i m (session_state_of q self.old) work (plain_step_answer result) m

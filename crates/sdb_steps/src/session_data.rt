@@ -6,7 +6,7 @@ use sdb_oplog::Key;
 use sdb_subscribe::SubId;
 use std::collections::BTreeMap;
 
-// The phase of an attempt: with a look; with a work for an older look and a newer look; or worked.
+// The phase of an attempt: a look alone; a work for an older look and a newer look; or a work.
 #[derive(Drop)]
 pub(crate) enum Phase {
     Looked(Attempt),

@@ -19,14 +19,15 @@ pub enum Step {
         version: Option<u64>,
         content: Content,
     },
-    /// Transforms the submission against the entries of its look and applies it, without reading
-    /// the documents. Idle without an attempt, and if the attempt is worked.
+    /// Computes the attempt's work: transforms the submission against the entries of its look and
+    /// applies it, without reading the documents. Idle without an attempt, and if the attempt has
+    /// its work.
     Work {
         session: SessionNumber,
     },
     /// Decides the attempt if the log hasn't grown since the look, or on the ninth try; otherwise
-    /// it takes a new look. An attempt that isn't worked is worked first. The stored entry has this
-    /// moment, or that of the entry before it if that is later.
+    /// it takes a new look. Computes the attempt's work first if it has none. The stored entry has
+    /// this moment, or that of the entry before it if that is later.
     ///
     /// Idle without an attempt.
     Commit {
@@ -80,7 +81,7 @@ pub enum Step {
 pub enum StepAnswer {
     /// The attempt is open.
     Began,
-    /// The attempt is worked.
+    /// The attempt has its work.
     Worked,
     /// The log has grown since the look; a new look was taken.
     Moved,

@@ -24,6 +24,13 @@ impl World {
     /// # Errors
     ///
     /// [`AllocError`] if an allocation fails.
+    ///
+    /// ```
+    /// let mut world = World::new(alloc)?;
+    /// let fetch = read_step(alloc, r#"{"s":7,"do":"fetch","c":"b","d":"1"}"#)?;
+    /// let answer = world.step(fetch);
+    /// assert!(rt; matches!(answer, StepAnswer::Fetched(found) if found.version == 0));
+    /// ```
     pub fn new(alloc: Global) -> Result<World, AllocError>
         ensures machine { IfOk result (λ w. one_step_of_world w ≡ empty_machine) }
         ensures sessions { IfOk result (λ w. sessions_of w ≡ empty_sessions) }

@@ -18,8 +18,8 @@ use crate::step::{Step, StepAnswer};
 use sdb_desk::Shard;
 use std::alloc::{AllocError, Global};
 
-// All documents and sessions. Each queue in a slot is open under its session's number, no two
-// sessions share a queue, and each attempt rests on a look at its key's log.
+// All documents and sessions. Each queue in a slot is open under its session's number, and no two
+// sessions share a queue. Each attempt's look is a look at its key's log or at a prefix of it.
 #[derive(Drop)]
 pub(crate) struct WorldState {
     alloc: Global,

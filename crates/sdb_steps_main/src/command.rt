@@ -9,7 +9,7 @@ use std::io;
 // The mode in which the program runs.
 #[derive(Clone, Copy, PartialEq, Eq, Drop)]
 pub(crate) enum Job {
-    // Writes the responses to the steps.
+    // Writes the answers to the steps.
     Run,
     // Writes the dump of the documents after the steps.
     Dump,
@@ -59,7 +59,7 @@ where
     }
 }
 
-// Executes the steps of standard input, and writes the responses or the dump.
+// Executes the steps of standard input, and writes the answers or the dump.
 fn run_input<R: AllocGlobal + Input + Print>(rt: &R, is_dumping: bool) -> u8 {
     let mut reader = CountingReader::new(rt.reader());
     let mut writer = CountingWriter::new(io::writer(rt));

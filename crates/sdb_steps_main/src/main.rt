@@ -1,5 +1,5 @@
 //! The program that executes the steps of up to 64 sessions on shared documents. Each line of
-//! standard input is a step, and each has one response line on standard output.
+//! standard input is a step, and each has one answer line on standard output.
 #![tactic(auto)]
 
 mod command;

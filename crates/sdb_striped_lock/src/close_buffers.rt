@@ -32,7 +32,7 @@ impl<T> CloseBuffers<T> {
             return Err(AllocError);
         };
         let mut columns = Vec::with_capacity(alloc, STRIPES)?;
-        for _place in 0..STRIPES {
+        for _index in 0..STRIPES {
             columns.push_reserved(Vec::with_capacity(alloc, room)?);
         }
         let values = Vec::with_capacity(alloc, STRIPES)?;

@@ -16,7 +16,7 @@ use sdb_growlock::{GrowLock, Grows, Job, Seat};
 use std::alloc::{AllocError, Global};
 use std::sync::Wait;
 
-/// A growing value with an empty one.
+/// A type of growing values that has an empty value.
 pub trait Empty: Grows {
     /// Returns a value without a part of any number.
     fn empty(alloc: Global) -> Self
@@ -45,7 +45,7 @@ impl<T: Empty + Drop> StripedLock<T> {
     {
         let mut locks = Vec::with_capacity(alloc, STRIPES)?;
         let mut seats = Vec::with_capacity(alloc, STRIPES)?;
-        for _place in 0..STRIPES {
+        for _index in 0..STRIPES {
             match GrowLock::new(alloc, T::empty(alloc)) {
                 Ok((lock, seat)) => {
                     locks.push_reserved(lock);

@@ -4,6 +4,14 @@ ghost use Rattle.std.specs.Prelude.{◌≡◌, length};
 use sdb_growlock::{GrowLock, Grows, Seat};
 
 /// Eight locks, each around a value that only grows.
+///
+/// ```
+/// // `CountTurn` is a `Job` that adds 1 to a `Count` and returns the sum.
+/// let (lock, mut root): (StripedLock<Count>, _) = StripedLock::new(alloc)?;
+/// let mut seats = lock.split(alloc, &mut root)?;
+/// assert_eq!(rt; lock.with(&rt, &mut seats, 0, CountTurn), 1);
+/// assert_eq!(rt; lock.with(&rt, &mut seats, 7, CountTurn), 1);
+/// ```
 #[derive(Drop)]
 pub struct StripedLock<T: Grows> {
     pub(crate) locks: Vec<GrowLock<T>>,

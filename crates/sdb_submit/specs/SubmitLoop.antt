@@ -11,8 +11,8 @@ use Rattle.sdb_submit.specs.Calls.{PlainCall, look, commit, commit_now, current_
 abbrev pub CallRelation : Type 0 → Type 1
 CallRelation P = (c : PlainCall) → P → CallAnswer c → P → Type 0
 
--- n tries from this look: each works and commits, and a try that finds a longer log continues with its new look; with
--- no try left, or if an allocation fails, `commit_now` decides
+-- n tries from this look: each computes the work and commits, and a try that finds a longer log continues with its new
+-- look; with no try left, or if an allocation fails, `commit_now` decides
 unfoldable pub SubmitRetries : {P : Type 0} → CallRelation P → PlainSubmission → ℕ → ℕ → PlainLook → P → PlainReply → P → Type 0
 SubmitRetries acts s now zero l p r q = acts (commit_now s now) p r q
 SubmitRetries acts s now (suc n) l p r q =

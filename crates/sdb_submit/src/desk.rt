@@ -13,6 +13,12 @@ use std::alloc::AllocError;
 
 /// The interface of a document store: looks, commits, reads and queues. An implementation defines
 /// how each call relates the pass before it, its answer and the pass after it.
+///
+/// ```
+/// // The pass of the desk `Solo` is a `Shard`, that of a `Backend` a `Pass`.
+/// let mut shard = Shard::new(alloc);
+/// assert_eq!(rt; Solo.fetch(&mut shard, &key)?.version, 0);
+/// ```
 pub trait Desk {
     /// The caller's handle.
     type Pass;
@@ -77,8 +83,8 @@ pub trait Desk {
         ensures step { step self.now (plain_key key.now) (commit_now submission.now now) pass.old
             (plain_reply result) pass.new };
 
-    /// Decides a work's submission at a moment, even if the log has grown since its look. Only the
-    /// newer entries are transformed against.
+    /// Decides a work's submission at a moment, even if the log has grown since its look. An
+    /// implementation should transform only against the newer entries; no clause states it.
     fn commit_last(&self, pass: &mut Self::Pass, key: &Key, work: Work, now: Moment) -> Reply
         requires accepted { accepts self.now pass.old }
         requires by { work.submission.by ≡ pass_number self.now pass.old }

@@ -1,4 +1,4 @@
-//! The loop of a submission.
+//! The optimistic retry loop of a submission.
 ghost use Rattle.std.specs.Prelude.{◌≡◌, IsTrue, IsFalse};
 ghost use Rattle.sdb_oplog.specs.Decide.{refused};
 ghost use Rattle.sdb_oplog.specs.declared.codes.Code.TheVariants.{E10};
@@ -18,6 +18,12 @@ use std::alloc::Global;
 ///
 /// If an allocation fails for a look, a work or a commit, `commit_now` decides at once. It replies
 /// E10 only if the decision itself fails to allocate, and nothing changes then.
+///
+/// ```
+/// let (mut shard, now) = (Shard::new(alloc), Moment::zero());
+/// let reply = submit(alloc, &Solo, &mut shard, &key, &submission, now, &NoGate);
+/// assert!(rt; matches!(reply, Reply::Stored { v: 0, .. }));
+/// ```
 pub fn submit<D: Desk, G: Gate>(
     alloc: Global,
     desk: &D,

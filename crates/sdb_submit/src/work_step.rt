@@ -7,12 +7,12 @@ use sdb_desk::{Attempt, Look, Work};
 use sdb_oplog::Submission;
 use std::alloc::Global;
 
-/// Works an attempt without a lock.
+/// Computes the work of an attempt, without a lock.
 ///
 /// # Errors
 ///
-/// The attempt, unchanged, if an allocation fails. This needs an edit to transform against an edit,
-/// or a document to change.
+/// The attempt, unchanged, if an allocation fails. It allocates only to transform an edit against
+/// an edit, and to change a document.
 pub fn work(alloc: Global, attempt: Attempt) -> Result<Work, Attempt>
     ensures ok { IfOk result (λ w. w ≡ plain_attempt attempt) }
     ensures err { IfErr result (λ a. plain_attempt a ≡ plain_attempt attempt) }
@@ -42,7 +42,7 @@ pub(crate) fn next_work(
     made.ok()
 }
 
-/// Works a submission for a newer look, from its last work, as [`Work::resume`] does.
+/// Computes the work of a submission for a newer look from its last work, as [`Work::resume`] does.
 ///
 /// # Errors
 ///

@@ -1,4 +1,4 @@
--- The queues of one document: `Queue`.
+-- The queues of one document, and the entries that a queue receives, `queue`.
 use Rattle.std.specs.Prelude.{Bool, true, false, ℕ, ◌+◌, ◌<◌, map, List, [], ◌∷◌, ◌++◌, take, drop, length, cond, if◌then◌else◌, nat_eq, Option, Some, None, option_map, Result, Ok, Err}
 use Rattle.std.specs.List.{AllByRecursion}
 use Rattle.std.specs.Option.{option_map_or}
@@ -6,7 +6,7 @@ use Rattle.sdb_oplog.specs.Plain.{PlainEntry}
 use Rattle.sdb_oplog.specs.declared.codes.Code.{Code}
 use Rattle.sdb_oplog.specs.declared.codes.Code.TheVariants.{E11}
 
--- `Queue`: the first n entries from version `from` on, fewer if the log ends before
+-- the first n entries from version `from` on, fewer if the log ends before
 abbrev pub queue : List PlainEntry → ℕ → ℕ → List PlainEntry
 queue log from n = take n (drop from log)
 

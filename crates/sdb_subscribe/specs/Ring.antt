@@ -43,7 +43,7 @@ pub record IsRingOfLog (log : List PlainEntry) (q : RingedQueue) : Type 0 where
 abbrev pub AreRingsOfLog : List PlainEntry → List (ℕ × RingedQueue) → Type 0
 AreRingsOfLog log = AllByRecursion (λ q. IsRingOfLog log q.1)
 
--- a queue after an append: its ring buffer gets the entry and keeps the last 64, or is emptied if the clone fails to
+-- a queue after an append. Its ring buffer gets the entry and keeps the last 64, or is emptied if the clone fails to
 -- allocate; it is unchanged if the queue's position is after the entry
 pub record IsPushed (entry : PlainEntry) (q new : RingedQueue) : Type 0 where
   pub queue : new.queue ≡ q.queue
@@ -52,7 +52,7 @@ pub record IsPushed (entry : PlainEntry) (q new : RingedQueue) : Type 0 where
       ⊎ ((next_version q.queue ≤ entry.version)
       × ((new.ring ≡ keep_last 64 (q.ring ++ entry ∷ [])) ⊎ (new.ring ≡ [])))
 
--- each queue, under its number
+-- each queue is pushed to, under its number
 abbrev pub ArePushed : PlainEntry → List (ℕ × RingedQueue) → List (ℕ × RingedQueue) → Type 0
 ArePushed entry [] new = new ≡ []
 ArePushed entry (q ∷ qs) [] = ⊥

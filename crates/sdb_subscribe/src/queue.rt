@@ -37,7 +37,7 @@ impl Model for Queue {
       ring = q.ring.items;
     } };
 
-    // the entries read were in a log, so the sum of both fits in 64 bits
+    // The entries read were in a log, so the sum of both fits in 64 bits.
     ghost invariant = { λ q. (q.start + q.taken < 2 ^ 64) × (q.ring.capacity ≡ 64) };
 }
 
@@ -125,7 +125,7 @@ fn entries_from_log(log: &Log, from: u64, max: u64) -> &[Entry]
     &entries[..count as usize]
 }
 
-// Clones the entries into a vector with capacity for `room`.
+// Clones the entries into a vector with capacity for `room` entries.
 fn clone_entries(alloc: Global, entries: &[Entry], room: usize) -> Result<Vec<Entry>, AllocError>
     requires { length entries.now ≤ room }
     ensures copies { IfOk result (λ v. v.items ≡ entries.now) }

@@ -32,6 +32,13 @@ impl Model for SubId {
 
 /// The queues of one document: the next number, and each open queue with its position and its ring
 /// buffer of at most 64 entries. A call that reads the log borrows it.
+///
+/// ```
+/// let mut queues = Queues::new(alloc);
+/// let id = queues.open(1, 0)?;
+/// queues.push_entry(&entry);
+/// assert_eq!(rt; (queues.ringed(id), queues.owner(id)), (Some(1), Some(1)));
+/// ```
 #[derive(Drop)]
 pub struct Queues {
     alloc: Global,

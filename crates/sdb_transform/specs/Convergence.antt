@@ -58,7 +58,7 @@ abbrev pub StepStaysInRange : PlainAct → PlainStep → Type 0
 StepStaysInRange (li i v) (index j) = i ≤ j → IsSafeInteger (j + 1)
 StepStaysInRange o s = ⊤
 
--- by the rest of c's path after o's, if it begins with it
+-- the case of c by the rest of its path after o's path, if it begins with o's path
 abbrev pub SuffixStaysInRange : Side → PlainComponent → PlainComponent → Option (List PlainStep) → Type 0
 SuffixStaysInRange side c o None = ⊤
 SuffixStaysInRange side c o (Some []) = ActStaysInRange side c.act o.act

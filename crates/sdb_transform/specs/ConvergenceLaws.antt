@@ -9,18 +9,18 @@ use Rattle.sdb_transform.specs.declared.side.Side.TheVariants.{Left, Right}
 use Rattle.sdb_transform.specs.Transform.{transform, removed_step}
 use Rattle.sdb_transform.specs.Convergence.{StaysInRange, ConcurrentPair, Converges, ConvergesOrOverflows}
 
--- disjoint paths
+-- convergence at disjoint paths
 abbrev pub DisjointConverge : Type 0
 DisjointConverge =
     (s t : Side) (d : Value) (a b : PlainComponent) → ConcurrentPair s t d a b → AreDisjointPaths a.path b.path → Converges s t d a b
 
--- b is inside the step w of a's container: cases 1 and 2 of `transform`
+-- convergence if b is inside the step w of a's container: cases 1 and 2 of `transform`
 abbrev pub BelowConverge : Type 0
 BelowConverge =
     (s t : Side) (d : Value) (a b : PlainComponent) (w : PlainStep) (rest : List PlainStep)
     → ConcurrentPair s t d a b → b.path ≡ a.path ++ w ∷ rest → Converges s t d a b
 
--- both at one list, at one object, at one text
+-- convergence of two components at one list, at one object, at one text
 abbrev pub ListsConverge : Type 0
 ListsConverge =
     (d : Value) (a b : PlainComponent) (items : Items) → ConcurrentPair Left Right d a b → a.path ≡ b.path
@@ -36,7 +36,7 @@ TextsConverge =
     (d : Value) (a b : PlainComponent) (bytes : List ℕ) → ConcurrentPair Left Right d a b → a.path ≡ b.path
     → value_at d a.path ≡ Some (text bytes) → Converges Left Right d a b
 
--- both at one number, whose sum may leave the range
+-- convergence of two additions to one number, whose sum may leave the range
 abbrev pub NumbersConverge : Type 0
 NumbersConverge =
     (d : Value) (a b : PlainComponent) (number : ℤ) → ConcurrentPair Left Right d a b → a.path ≡ b.path

@@ -18,7 +18,7 @@ run_work tl tr weigh L (LeftChanges ls ∷ ts) = run_work tl tr weigh (ls ++ L) 
 run_work tl tr weigh L (RightChange r ∷ ts) =
     and_then (cross tl tr weigh L (r ∷ [])) (λ x. and_then (run_work tl tr weigh x.left ts) (λ y. Some (append_right x y)))
 
--- with the part that is done
+-- a crossing with the finished part added to it
 abbrev pub add_done : {C : Type 0} → List C → ℕ → Crossing C → Crossing C
 add_done done k y = record { left = y.left; right = done ++ y.right; pairs = k + y.pairs }
 

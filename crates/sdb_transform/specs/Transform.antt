@@ -1,5 +1,5 @@
--- A component transformed against a concurrent one: `Transform`. json0's README says which pairs interact; the choices
--- on ties are this project's own. `None` is E8. Offsets and lengths of texts count UTF-16 code units.
+-- A component transformed against a concurrent one, `transform`. json0's README defines which pairs interact; the
+-- choices on ties are this project's own. `None` is E8. Offsets and lengths of texts count UTF-16 code units.
 use Rattle.std.specs.Prelude.{ℕ, ◌+◌, ◌-◌, min, Bool, false, if◌then◌else◌, nat_lt, nat_le, nat_eq, List, [], ◌∷◌, ◌++◌, take, drop, map, Option, Some, None, option_map, option_and_then}
 use Rattle.std.specs.Option.{option_map_or}
 use Rattle.sdb_value.specs.Value.{Value, PlainStep, key, index, texts_equal, steps_equal}
@@ -242,16 +242,16 @@ abbrev pub with_moved_step : PlainComponent → PlainComponent → List PlainSte
 with_moved_step c o rest None = []
 with_moved_step c o rest (Some s) = component_at (o.path ++ s ∷ rest) c.act ∷ []
 
--- by the rest of c's path after o's, if it begins with it
+-- the case of c by the rest of its path after o's path, if it begins with o's path
 abbrev pub transform_below : Side → PlainComponent → PlainComponent → List PlainStep → TransformResult
 transform_below side c o [] = option_map (map (component_at c.path)) (transform_act side c.act o.act)
 transform_below side c o (s ∷ rest) = option_map (with_moved_step c o rest) (transform_step o.act s)
 
--- by the rest of o's path inside the value that c removes, if it is there
+-- c with its removed value updated, if o's path is inside that value
 abbrev pub update_removed : PlainComponent → PlainComponent → Option (List PlainStep) → List PlainComponent
 update_removed c o None = c ∷ []
 update_removed c o (Some rest) = component_at c.path (map_removed (updated_value (component_at rest o.act)) c.act) ∷ []
 
--- `Transform`: the components that replace c after o
+-- the components that replace c after o
 abbrev pub transform : Side → PlainComponent → PlainComponent → TransformResult
 transform side c o = option_map_or (transform_below side c o) (strip_prefix o.path c.path) (Some (update_removed c o (strip_removed_path c o.path)))

@@ -22,7 +22,7 @@ use std::alloc::Global;
 pub(crate) enum PositionChange {
     Dropped,
     Unchanged,
-    // To this offset or index.
+    // The new offset or index.
     MovedTo(u64),
 }
 
@@ -47,8 +47,8 @@ pub(crate) fn classify(component: &Component, other: &Component, side: Side) -> 
     }
 }
 
-// Without a common container, only the removal of a value in which the other component works is
-// rewritten.
+// Classifies a component that isn't at or inside the other's container. Only the removal of a value
+// in which the other component works is rewritten.
 fn classify_disjoint(component: &Component, other: &Component) -> TransformKind
     ensures { IsKindOfComponent result component.now
         (Some (update_removed component.now other.now (strip_removed_path component.now other.now.path))) }
@@ -62,7 +62,7 @@ fn classify_disjoint(component: &Component, other: &Component) -> TransformKind
     }
 }
 
-// Inside the other's container, the path's step there decides.
+// Classifies a component inside the other's container, by its path's step there.
 fn classify_below(step: &Step, other: &Act) -> TransformKind
     ensures { IsKindOfStep result (plain_step step.now) (transform_step (plain_act other.now) (plain_step step.now)) }
 {

@@ -243,7 +243,8 @@ fn classify_or(key: &str, other: &Act, side: Side) -> TransformKind
     }
 }
 
-// Both set one position: the left one overwrites the other's value, the right one is dropped.
+// Classifies two acts that set one position: the left one overwrites the other's value, the right
+// one is dropped.
 fn classify_overwrite(side: Side) -> TransformKind
     ensures { result ≡ overwrite_kind side }
 {

@@ -34,7 +34,8 @@ pub fn pairs_within_product()
 /// Applying `a` and then `b` transformed against it makes the value that the other order makes. Or
 /// both orders are refused, because both add to one number whose sum leaves the range.
 ///
-/// The bound requires that no index or offset of the transforms exceeds 9007199254740991.
+/// The premises `a_in_range` and `b_in_range` require that no index or offset of the transforms
+/// exceeds 9007199254740991.
 pub fn meet(document: &Json, a: &Component, b: &Component)
     requires a_well_made { WellMade a.now (value_of document.now) }
     requires b_well_made { WellMade b.now (value_of document.now) }
@@ -84,8 +85,8 @@ pub fn fits_where_well_made()
     ensures { InRangeWhereWellMade }
 {}
 
-/// States that a removed value stays current: if it was the value at its step and the other
-/// component changes something in it, it is the changed value afterwards.
+/// States that a removed value stays current. If a component removes the value at its step and the
+/// other one changes something inside it, the transformed component removes the changed value.
 pub fn removed_value_is_current()
     ensures { RemovedValueIsCurrent }
 {}

@@ -40,6 +40,13 @@ pub struct Crossed {
 ///
 /// [`Fault::NotTransformed`] if the transform of a pair is, [`Fault::OutOfMemory`] if an allocation
 /// fails.
+///
+/// ```
+/// // `left` is [{"li":1,"p":[0]}], and `right` is [{"li":2,"p":[0]}].
+/// let crossed = cross(alloc, &left, &right)?;
+/// // Applying `left` and `crossed.right` gives what `right` and `crossed.left` give.
+/// assert_eq!(rt; crossed.pairs, 1);
+/// ```
 pub fn cross(alloc: Global, left: &Op, right: &Op) -> Result<Crossed, Fault>
     ensures ok { IfOk result (λ c. IsResultOfCross c (cross_ops left.now right.now)) }
     ensures err { IfErr result (λ f. IsTransformFault f (cross_ops left.now right.now)) }
@@ -114,6 +121,13 @@ fn cross_many(alloc: Global, left: Vec<Component>, right: Vec<Component>) -> Res
 /// # Errors
 ///
 /// As [`cross`].
+///
+/// ```
+/// // `op` is [{"li":1,"p":[0]}], and `other` is [{"li":2,"p":[0]}].
+/// let after = transform(alloc, &op, &other, Side::Right)?;
+/// let text = op_value(alloc, &after)?.to_string(alloc)?;
+/// assert_eq!(rt; text.as_str(), r#"[{"li":1,"p":[1]}]"#);
+/// ```
 pub fn transform(alloc: Global, op: &Op, other: &Op, side: Side) -> Result<Op, Fault>
     ensures ok { IfOk result (λ t. transform_op side op.now other.now ≡ Some t) }
     ensures err { IfErr result (λ f. IsTransformFault f (transform_op side op.now other.now)) }

@@ -9,9 +9,9 @@ use thiserror::Error;
 /// The side of one of two concurrent operations.
 #[derive(Clone, Copy, PartialEq, Eq, Debug, Drop)]
 pub enum Side {
-    /// The one that goes first, or that wins a tie.
+    /// The side that wins a tie: its insert comes first, and its value stays.
     Left,
-    /// The one that goes second, or that loses a tie.
+    /// The side that loses a tie.
     Right,
 }
 

@@ -21,7 +21,7 @@ is_deep_unique_chunk b = cond (is_chunk_unique b) (items_unique (items_of b)) fa
 abbrev pub are_deep_unique_chunks : List (Chunk Json) → Bool
 are_deep_unique_chunks bs = all_true (map is_deep_unique_chunk bs)
 
--- for chunks of members
+-- the same for chunks of members
 abbrev pub is_deep_unique_member_chunk : Chunk (MapEntry Json) → Bool
 is_deep_unique_member_chunk b = cond (is_chunk_unique b) (members_unique (items_of b)) false
 

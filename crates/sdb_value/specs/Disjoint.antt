@@ -13,7 +13,7 @@ DisjointPathsCommute =
     (p q : List PlainStep) (d u v x y : Value) → AreDisjointPaths p q → value_at d p ≡ Some x → value_at d q ≡ Some y
     → (value_at (with_value_at d p u) q ≡ Some y) × (with_value_at (with_value_at d p u) q v ≡ with_value_at (with_value_at d q v) p u)
 
--- for one step
+-- the same for one step
 abbrev pub DisjointStepsCommute : Type 0
 DisjointStepsCommute =
     (s t : PlainStep) (d u v : Value) → steps_equal s t ≡ false

@@ -16,11 +16,11 @@ abbrev pub all_true : List Bool → Bool
 all_true [] = true
 all_true (b ∷ bs) = cond b (all_true bs) false
 
--- of members, given the uniqueness of each value
+-- the uniqueness of members, given that of each value
 abbrev pub members_unique_step : SortedMap Bool → Bool
 members_unique_step m = cond (is_unique_map m) (all_true (map (λ e. e.1) (map_entry_models (λ b. b) m))) false
 
--- one level, given the uniqueness of each value inside
+-- the uniqueness of one level, given that of each value inside
 abbrev pub unique_step : Json-F Bool → Bool
 unique_step (Json-F.Text t) = is_unique_rope t
 unique_step (Json-F.List l) = cond (is_unique_vec l) (all_true (vec_models (λ b. b) l)) false
@@ -30,7 +30,7 @@ unique_step _ = true
 abbrev pub is_unique : Json → Bool
 is_unique = fold-Json Bool unique_step
 
--- of a list and all its items, and of a map's values
+-- the uniqueness of a list and all its items, and of a map's values
 abbrev pub items_unique : List Json → Bool
 items_unique vs = all_true (map is_unique vs)
 
@@ -40,7 +40,7 @@ list_unique l = cond (is_unique_vec l) (items_unique (vec_items l)) false
 abbrev pub map_unique : List (String Global × Json) → Bool
 map_unique es = all_true (map (λ e. is_unique e.1) es)
 
--- of the values of members, of a list of members with all values, and of an object's members
+-- the uniqueness of the values of members, of a list of members with all values, and of an object's members
 abbrev pub members_unique : List (MapEntry Json) → Bool
 members_unique ms = all_true (map (λ m. is_unique m.value) ms)
 

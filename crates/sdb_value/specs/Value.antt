@@ -143,12 +143,12 @@ with_child (index i) (list ds) u = list (set_item i ds u)
 with_child (key k) (object ms) u = object (set_member k ms u)
 with_child _ d u = d
 
--- `Place`: the value at the path p, if any
+-- the value at the path p, if any
 abbrev pub value_at : Value → List PlainStep → Option Value
 value_at d [] = Some d
 value_at d (w ∷ p) = option_and_then (λ c. value_at c p) (child w d)
 
--- `Place`: d with the value at p replaced by u
+-- d with the value at p replaced by u
 abbrev pub with_value_at : Value → List PlainStep → Value → Value
 with_value_at d [] u = u
 with_value_at d (w ∷ p) u = option_map_or (λ c. with_child w d (with_value_at c p u)) (child w d) d

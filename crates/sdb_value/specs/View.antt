@@ -49,7 +49,7 @@ members_value ms = members_from_list (map (λ m. (m.0, value_of m.1)) ms)
 abbrev pub map_value : List (String Global × Json) → Members
 map_value ms = members_value (map (λ m. (string_bytes m.0, m.1)) ms)
 
--- of a chunked list, and of an object's members
+-- the items of a chunked list, and the members of an object
 abbrev pub list_value : ChunkedVec Json → Items
 list_value l = items_value (vec_items l)
 

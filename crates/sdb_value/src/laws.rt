@@ -7,8 +7,8 @@ ghost use Rattle.sdb_value.specs.WellFormed.{IsInRange, IsWellFormed, AreWellFor
 use crate::value::{Json, List, Members, Whole};
 use sdb_rope::laws::text_is_utf8;
 
-/// States that the numbers of a value are in range, its texts and keys are UTF-8, and the keys of
-/// each object are sorted by bytes and unique.
+/// States that a value is well formed: numbers are in range, texts and keys are UTF-8, and the keys
+/// of each object are sorted by bytes and unique.
 pub fn well_formed(value: &Json)
     ensures { IsWellFormed (value_of value.now) }
 {

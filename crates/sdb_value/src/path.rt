@@ -25,6 +25,14 @@ pub enum Step {
 }
 
 /// The steps from the root of a document.
+///
+/// ```
+/// // `value` is {"l":[true]}.
+/// let mut path = Vec::new(alloc);
+/// path.push(Step::Key(String::from_str(alloc, "l")?))?;
+/// path.push(Step::Index(0))?;
+/// assert!(rt; matches!(find(&value, &path), Some(Json::Bool(true))));
+/// ```
 pub type Path = Vec<Step>;
 
 /// Returns the value at a path. Returns `None` if a key is missing, an index is out of range, or a
@@ -38,8 +46,9 @@ pub fn find<'v>(value: &'v Json, path: &[Step]) -> Option<&'v Json>
     }
 }
 
-/// Borrows the value at a path mutably, if no part on the path is shared; `None` otherwise. Only
-/// [`change_at`] states the effect of a change on the whole value.
+/// Borrows the value at a path mutably. It returns `None` if the path doesn't exist, or if a part
+/// on the path is shared, which a unique value excludes. Only [`change_at`] states the effect of a
+/// change on the whole value.
 #[tactic(auto, using(crate::proofs::UniquenessLemmas::levels))]
 pub fn find_mut<'v>(value: &'v mut Json, path: &[Step]) -> Option<&'v mut Json>
     ensures { is_unique value.old ≡ true
@@ -111,10 +120,10 @@ pub trait Change {
     // its output.
     ghost relation: { Self → Value → Value → Self.Output → Type 0 };
 
-    // whether the change leaves a unique value unique
+    // Whether the change leaves a unique value unique.
     ghost keeps_unique: { Self → Type 0 };
 
-    // a fact about the output if the value was unique
+    // A fact about the output if the value was unique.
     ghost result_unique: { Self → Self.Output → Type 0 };
 
     /// Changes the value in place.

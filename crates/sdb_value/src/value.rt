@@ -75,6 +75,13 @@ pub type Members = sdb_sorted_map::SortedMap<Json>;
 /// The value of a document (RFC 8259, section 3), with integers only. Its texts, lists and objects
 /// are unique or shared with clones. A change is copy-on-write: it copies shared parts on its path
 /// and changes unique ones in place.
+///
+/// ```
+/// let value = from_value(alloc, &Value::from_str(alloc, r#"{"n":1}"#)?)?;
+/// assert!(rt; matches!(&value, Json::Object(members) if members.len() == 1));
+/// let text = to_value(alloc, &value)?.to_string(alloc)?;
+/// assert_eq!(rt; text.as_str(), r#"{"n":1}"#);
+/// ```
 pub enum Json {
     /// `null`.
     Null,
@@ -228,8 +235,8 @@ impl Json {
         freeze_value(alloc, self)
     }
 
-    /// Returns the nesting depth of lists and objects, at most `u64::MAX`: 0 for any other value,
-    /// and one more than the deepest item for a list or object.
+    /// Returns the nesting depth of lists and objects, at most `u64::MAX`. That of a list or object
+    /// is one more than its deepest item's, that of any other value 0.
     pub fn depth(&self) -> u64
         ensures { result ≡ min (depth (value_of self.now)) 18446744073709551615 }
     {

@@ -50,7 +50,7 @@ fn write_json(value: &Json, out: &mut Writer) -> Result<(), AllocError>
     }
 }
 
-// A text of several chunks is concatenated first.
+// Writes a text. A text of several chunks is concatenated first.
 fn write_text(text: &Rope, out: &mut Writer) -> Result<(), AllocError>
     ensures tokens { OnOk result (out.new.tokens ≡ out.old.tokens ++ string (rope_bytes text.now) ∷ []) }
     ensures before_unchanged { out.new.before ≡ out.old.before }

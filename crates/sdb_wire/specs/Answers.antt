@@ -1,5 +1,5 @@
--- The text of an answer: `Text`. It is compact JSON (RFC 8259) with members in byte order, in this project's profile of
--- ShareDB protocol 1.
+-- The text of an answer, `answer_text`. It is compact JSON (RFC 8259) with members in byte order, in this project's
+-- profile of ShareDB protocol 1.
 use Rattle.std.specs.Prelude.{ℕ, List, true, Option, Some, None, codes}
 use Rattle.json.specs.Token.{Token}
 use Rattle.serde_json.specs.Data.{Data, null, boolean, number, unsigned, string, object, Members, no_members, member}

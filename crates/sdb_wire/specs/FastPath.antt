@@ -7,7 +7,7 @@ use Rattle.sdb_component.specs.ToJson.{op_data}
 use Rattle.sdb_oplog.specs.Keys.{PlainKey}
 use Rattle.sdb_oplog.specs.Plain.{PlainEntry}
 
--- a name without characters to escape
+-- the name has no characters to escape
 abbrev pub IsEscapeFree : List ℕ → Type 0
 IsEscapeFree name = escape name ≡ name
 

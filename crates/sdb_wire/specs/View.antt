@@ -70,7 +70,7 @@ plain_answer (OpText t) = op_message t.now.0 t.now.1
 plain_answer (Acknowledged k src seq v) = acknowledged (plain_key k.now) src.now seq v
 plain_answer (Failed echo code) = failed (plain_echo echo.now) code
 
--- the fault is the one that is due, or an allocation failed
+-- the fault is that of the refused result, or an allocation failed
 abbrev pub IsMessageFault : BadMessage → Result PlainRequest PlainBadMessage → Type 0
 IsMessageFault b r = (b.code ≡ E10 → ⊥) → r ≡ Err (record { echo = plain_echo b.echo; code = b.code })
 

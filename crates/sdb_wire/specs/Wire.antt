@@ -1,4 +1,4 @@
--- The request that a text denotes, by the members of its JSON value (RFC 8259): `Wire`. The messages are this project's
+-- The request that a text denotes, by the members of its JSON value (RFC 8259): `wire`. The messages are this project's
 -- profile of ShareDB protocol 1.
 use Rattle.std.specs.Prelude.{ℕ, List, length, Bool, true, false, ◌&&◌, ◌||◌, if◌then◌else◌, nat_lt, bytes_eq, Option, Some, None, Result, Ok, Err, option_map, option_and_then, unwrap_or, codes}
 use Rattle.std.specs.Option.{option_map_or, ok_or}
@@ -183,7 +183,7 @@ abbrev pub with_echo : {A : Type 0} → PlainEcho → Result A Code → Result A
 with_echo e (Ok x) = Ok x
 with_echo e (Err c) = Err (record { echo = e; code = c })
 
--- maximal length in bytes of a message
+-- maximum length in bytes of a message
 abbrev pub message_limit : ℕ
 message_limit = 1048576
 
@@ -191,7 +191,7 @@ message_limit = 1048576
 abbrev pub parse_data : List ℕ → Option Data
 parse_data line = if nat_lt message_limit (length line) then None else read line
 
--- `Wire`: the request, or the first code that applies with the echo of the message
+-- the request, or the first code that applies with the echo of the message
 abbrev pub wire : List ℕ → Result PlainRequest PlainBadMessage
 wire line =
     option_map_or (λ d. with_echo (echo_members d) (request_of d)) (parse_data line)

@@ -31,7 +31,8 @@ fn are_bytes_escape_free(text: &[u8]) -> bool
     true
 }
 
-// The last eight bytes overlap, so some are tested twice.
+// Tests a name eight bytes at a time. The last eight may overlap those before, so some bytes are
+// tested twice.
 #[inline(always)]
 fn are_chunks_escape_free(text: &[u8]) -> bool
     requires { 8 ≤ length text.now }

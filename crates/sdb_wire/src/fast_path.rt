@@ -48,7 +48,7 @@ pub(crate) fn push_ack(
     done
 }
 
-// After an error a part of it may be appended.
+// Appends an acknowledgement part by part. After an error some parts may be appended.
 #[inline(always)]
 fn push_ack_parts(
     key: &Key,

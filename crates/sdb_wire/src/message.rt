@@ -4,10 +4,10 @@ use sdb_json::JsonTree;
 use sdb_oplog::{Code, Content, Entry, Key, Moment};
 use sdb_value::Json;
 
-/// Maximal length in bytes of a message: 1,048,576.
+/// Maximum length in bytes of a message: 1,048,576.
 pub const MESSAGE_LIMIT: usize = 1_048_576;
 
-/// Maximal length in bytes of a name: 200. The minimal length is 1.
+/// Maximum length in bytes of a name: 200. The minimum length is 1.
 pub const NAME_LIMIT: usize = 200;
 
 // The URI of the type json0, as in ShareDB.

@@ -25,6 +25,13 @@ use std::alloc::{AllocError, Global};
 ///
 /// The first of [`Code::E1`] to [`Code::E3`] that applies, with the echo of the message, or
 /// [`Code::E10`] if an allocation fails.
+///
+/// ```
+/// let request = read_message(alloc, r#"{"a":"f","c":"b","d":"1","v":3}"#);
+/// assert!(rt; matches!(request, Ok(Request::Fetch { version: Some(3), .. })));
+/// let refused = read_message(alloc, "{}");
+/// assert!(rt; matches!(refused, Err(bad) if bad.code == Code::E1));
+/// ```
 pub fn read_message(alloc: Global, text: &str) -> Result<Request, BadMessage>
     ensures ok { IfOk result (λ r. wire text.now ≡ Ok (plain_request r)) }
     ensures err { IfErr result (λ b. IsMessageFault b (wire text.now)) }

@@ -26,6 +26,11 @@ use std::alloc::{AllocError, Global};
 /// # Errors
 ///
 /// [`AllocError`] if an allocation fails.
+///
+/// ```
+/// let text = reply_text(alloc, &Answer::Init { src: "s1" })?;
+/// assert!(rt; text.as_str().starts_with(r#"{"a":"init","id":"s1""#));
+/// ```
 pub fn reply_text(alloc: Global, answer: &Answer<'_>) -> Result<String, AllocError>
     ensures { IfOk result (λ s. string_bytes s ≡ answer_text (plain_answer answer.now)) }
 {
@@ -248,7 +253,7 @@ fn write_snapshot(version: u64, document: Option<&Json>, out: &mut Writer) -> Re
     out.end_object()
 }
 
-// The current version and document.
+// Writes the current version and document.
 fn write_document(
     kind: &str,
     key: &Key,

@@ -18,7 +18,7 @@ use Rattle.sdb_oplog.specs.Decide.{is_log_full, is_version_too_new, apply_to_cop
 
 -- ---- codes
 
--- a code other than E10 is the one that is due
+-- a code other than E10 is the one that refuses the result
 pub code_of_refusal : {A : Type 0} (r : Result A Code) (c : Code) → (c ≡ E10 → ⊥) → IsRefusalOrOutOfMemory r c → r ≡ Err c
 code_of_refusal r E1 n h = h
 code_of_refusal r E2 n h = h
@@ -32,7 +32,7 @@ code_of_refusal r E9 n h = h
 code_of_refusal r E10 n h = absurd (n refl)
 code_of_refusal r E11 n h = h
 
--- an allocation failed, or the code is the one that is due
+-- an allocation failed, or the code is the one that refuses the result
 pub out_of_memory_or_refusal : {A : Type 0} (r : Result A Code) (c : Code) → IsRefusalOrOutOfMemory r c → (c ≡ E10) ⊎ (r ≡ Err c)
 out_of_memory_or_refusal r E1 h = inr h
 out_of_memory_or_refusal r E2 h = inr h

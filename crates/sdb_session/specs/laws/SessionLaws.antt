@@ -365,7 +365,7 @@ module _ {P : Type 0} (machine : P → Machine) where
     abbrev opens_if : Bool → PlainKey → Option ℕ → Bool
     opens_if b k v = not b && is_ok (subscribe_step_at (machine p) (base_key t k) v).answer
 
-    -- the reply is due, or an allocation failed, before or after the queue was opened
+    -- the reply is the machine's, or an allocation failed before or after the queue was opened
     abbrev Joined : Bool → PlainKey → Option ℕ → Result PlainSubscribeReply Code → Type 0
     Joined b k v r =
         Due b k v r

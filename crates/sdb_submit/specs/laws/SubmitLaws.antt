@@ -1,4 +1,5 @@
--- Laws of chains: what each call preserves, the atomicity of a submission to the machine, and its listings.
+-- Laws of chains: a chain preserves what each call preserves; with the machine as desk, a submission is atomic and a
+-- listing is one read.
 use Rattle.std.proofs.Common.{◌≡◌, ◌≢◌, ℕ, zero, suc, ◌+◌, ◌-◌, ◌<◌, ◌≤◌, List, [], ◌∷◌, ◌++◌, length, take, drop, Bool, true, false, cond, nat_lt, refl, sym, ap, ◌∙◌, subst, inl, inr, ◌⊎◌, Some, None, Result, Ok, Err, arith}
 use Rattle.std.proofs.lemmas.Bool.{le-ltb, lt-ltb}
 use Rattle.std.proofs.lemmas.Bool.Decides.{nat_tests}

@@ -51,7 +51,7 @@ row_none = refl
 pub row_next : versions (take_result (log 3) 0 10 later) ≡ Some (2 ∷ [])
 row_next = refl
 
--- at most the requested number
+-- a take returns at most the requested number
 pub row_most : versions (take_result (log 3) 0 1 start) ≡ Some (1 ∷ [])
 row_most = refl
 

@@ -51,7 +51,7 @@ set_member_same k no_members c e = refl
 set_member_same k (member l d ms) c e =
     set_member_same_cond (texts_equal k l) l c d ms _ (member_at k ms) e (set_member_same k ms c)
 
--- for one step
+-- the same for one step
 with_child_same : (w : PlainStep) (d c : Value) → child w d ≡ Some c → with_child w d c ≡ d
 with_child_same (index i) (list ds) c e = ap list (set_item_same i ds c (sym e))
 with_child_same (key k) (object ms) c e = ap object (set_member_same k ms c (sym e))

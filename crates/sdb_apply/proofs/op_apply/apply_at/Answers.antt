@@ -20,5 +20,5 @@ returns-in-Some-clause-outcome c =
     let Changed : Result ⊤ ApplyFault → Type 0 = λ r. ReplacedAt (λ u v. IsApplyOutcome true r (apply_act act u) u v) old path new in
     let Spares : Result ⊤ ApplyFault → Type 0 = λ r. IsErrOf r OutOfMemory → act_allocates act ≡ true in
     outcome_needs_less c.in-Some.done (act_allocates act) (is_unique c.args.value.now) (apply_one (record { path = path; act = act }) old) old new
-    (outcome_at c.in-Some.done true (apply_act act) old new path (outcome_at_some (AbsentAt old path new) Changed c.in_ok-done.field-0 c.in-Some.done c.in-Some.is c.in_ok-done.ensures.done))
+    (outcome_at c.in-Some.done true (apply_act act) old new path (outcome_at_some (AbsentAt old path new) Changed c.in_ok-done.field-0 c.in-Some.done c.in-Some.is c.in_ok-done.ensures.changed))
     (λ own. if_some Spares c.in_ok-done.field-0 c.in-Some.done c.in-Some.is (c.in_ok-done.ensures.result_unique own))

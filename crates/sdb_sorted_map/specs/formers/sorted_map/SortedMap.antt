@@ -102,7 +102,7 @@ shape_names g (inl b) = chunk_names b
 shape_names g (inr (inl bs)) = joined_names bs
 shape_names g (inr (inr gs)) = flat_map (λ s. joined_names s.0.1) (shape_items gs)
 
--- they are those of the list
+-- ---- the keys of a list's shape are those of the list
 map_map : {X Y Z : Type 0} (f : Y → Z) (s : X → Y) (xs : List X) → map f (map s xs) ≡ map (λ x. f (s x)) xs
 map_map f s [] = refl
 map_map f s (x ∷ xs) = ap (λ l. f (s x) ∷ l) (map_map f s xs)

@@ -13,13 +13,13 @@ loop-caller-init g c =
     let seats = c.args.first.seats.items in
     let s = element_at seats 8 c.args.first.has_every_stripe (omega arith) in
     let one : (i : ℕ) (d : Vec (Seat g.row.T.Denot) Global) (s : Seat g.row.T.Denot) → i < 8 → (slice_index_or new i d).items ≡ slice_index_or seats i s ∷ [] = λ i d s lt.
-    c.gather_stripe.ensures.columns i d s lt ∙ ap (λ (l : List (Seat g.row.T.Denot)). l ++ slice_index_or c.into_seats.result.items i s ∷ []) (nil_from_length (slice_index_or old i d).items (sym (slice_index_or old i d).ok.0 ∙ (c.requires.room.1 i d lt).0))
+    c.gather_stripe.ensures.columns i d s lt ∙ ap (λ (l : List (Seat g.row.T.Denot)). l ++ slice_index_or c.into_seats.result.items i s ∷ []) (nil_from_length (slice_index_or old i d).items (sym (slice_index_or old i d).ok.0 ∙ (c.requires.capacity.1 i d lt).0))
     ∙ ap (λ (v : Vec (Seat g.row.T.Denot) Global). slice_index_or v.items i s ∷ []) c.into_seats.ensures in
     record {
       eight = c.gather_stripe.ensures.length;
       room = λ i d lt.
           let long : vec_len (slice_index_or new i d) ≡ 1 = (slice_index_or new i d).ok.0 ∙ ap length (one i d s lt) in
-          let some = (c.requires.room.1 i d lt).1 in
+          let some = (c.requires.capacity.1 i d lt).1 in
           let same = c.gather_stripe.ensures.capacity i d lt in
           (long, omega (arith, some, same));
       each = one;

@@ -10,7 +10,7 @@ returns-in_default g c =
     record {
       equal = e.equal;
       shared = e.shared;
-      was = found_of {P = λ x. is_chunk_shared x ≡ true} c.clone_shared.result (is_chunk_shared b) (λ x was now. was) e.found e.shared;
-      other = some_of {P = λ x. is_chunk_shared x ≡ true} c.clone_shared.result (λ x now. c.in_default.not-Unique) e.shared;
+      was_shared = found_of {P = λ x. is_chunk_shared x ≡ true} c.clone_shared.result (is_chunk_shared b) (λ x was now. was) e.found e.shared;
+      not_unique_mode = some_of {P = λ x. is_chunk_shared x ≡ true} c.clone_shared.result (λ x now. c.in_default.not-Unique) e.shared;
       none = none_of c.clone_shared.result (is_chunk_shared b) e.found (λ h _. not_shared_unique b h);
     }

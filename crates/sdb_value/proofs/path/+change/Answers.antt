@@ -23,7 +23,7 @@ change_at-returns-in-Some-list_mut-clause-changed g t c =
     (eq_list_of_as_list (value_of c.args.value.now) (list_value c.in-Some-list_mut.items.now) c.in-Some-list_mut.ensures.value)
     (ap plain_path c.in-Some.ensures.cases.0 ∙ ap (λ s. plain_step s ∷ plain_path c.in-Some.rest.now) c.in-Index.is)
     (of_some _ _ c.in-Some-list_mut.is (c.list_mut.follows.holds _)).0
-    c.change_item.ensures.done
+    c.change_item.ensures.changed
 
 pub change_at-returns-in-Some-list_mut-clause-err : goal.change_at-returns-in-Some-list_mut-clause-err
 change_at-returns-in-Some-list_mut-clause-err g t c =
@@ -45,7 +45,7 @@ change_at-returns-in-Some-object_mut-clause-changed g t c =
     (ap plain_path c.in-Some.ensures.cases.0 ∙ ap (λ s. plain_step s ∷ plain_path c.in-Some.rest.now) c.in-Key.is
     ∙ ap (λ k. key k ∷ plain_path c.in-Some.rest.now) (sym c.as_str.ensures.value))
     (of_some _ _ c.in-Some-object_mut.is (c.object_mut.follows.holds _)).0
-    c.change_member.ensures.done
+    c.change_member.ensures.changed
 
 pub change_at-returns-in-Some-object_mut-clause-err : goal.change_at-returns-in-Some-object_mut-clause-err
 change_at-returns-in-Some-object_mut-clause-err g t c =
@@ -71,7 +71,7 @@ change_item-returns-clause-changed g t c =
     list_view c.change_at-done.result (λ r u v. g.C.Change.relation c.args.change u v r) ds _ c.args.number _ (value_of c.in-Some.item) new
     (ap (option_map value_of) (sym c.in-Some.is) ∙ c.in_ok-item.ensures.item)
     (c.put_item_back.ensures.items ∙ ap (λ l. set_item c.args.number l new) c.in_ok-item.ensures.left ∙ set_again c.args.number ds null new)
-    c.change_at-done.ensures.done
+    c.change_at-done.ensures.changed
 
 pub change_item-returns-clause-err : goal.change_item-returns-clause-err
 change_item-returns-clause-err g t c =
@@ -95,7 +95,7 @@ change_value-returns-clause-changed g t c =
     list_view c.change_at-done.result (λ r u v. g.C.Change.relation c.args.change u v r) ds _ c.args.number _ (value_of c.in-Some.member.value) new
     (ap (option_map (λ m. value_of m.value)) (sym c.in-Some.is) ∙ c.in_ok-member.ensures.value)
     (c.put_member_back.ensures.values ∙ ap (λ l. set_item c.args.number l new) c.in_ok-member.ensures.left ∙ set_again c.args.number ds null new)
-    c.change_at-done.ensures.done
+    c.change_at-done.ensures.changed
 
 pub change_value-returns-clause-names : goal.change_value-returns-clause-names
 change_value-returns-clause-names g t c =
@@ -124,7 +124,7 @@ pub change_member-returns-in-Ok-clause-changed : goal.change_member-returns-in-O
 change_member-returns-in-Ok-clause-changed g t c =
     view_members c.change_value-done.result (λ r u v. g.C.Change.relation c.args.change u v r) c.args.name.now c.in-Ok.index (plain_path c.args.rest.now) c.args.members.now c.from_entries.result
     c.into_chunks-entries.result c.change_value-done.new.entries (c.into_chunks-entries.ensures.equal ∙ ap map_chunks c.replace.ensures.value) c.from_entries.ensures
-    c.change_value-done.ensures.names c.in-Ok.ensures.found c.change_value-done.ensures.done
+    c.change_value-done.ensures.names c.in-Ok.ensures.key_index c.change_value-done.ensures.changed
 
 pub change_member-returns-in-Ok-clause-err : goal.change_member-returns-in-Ok-clause-err
 change_member-returns-in-Ok-clause-err g t c =

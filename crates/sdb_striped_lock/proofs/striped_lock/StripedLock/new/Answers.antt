@@ -11,7 +11,7 @@ use Rattle.sdb_striped_lock.proofs.striped_lock.StripedLock.new.Goals as goal
 pub loop-index-preserved : goal.loop-index-preserved
 loop-index-preserved g c =
     let inv = c.loop-index.invariant in
-    let m = c.loop-index._place in
+    let m = c.loop-index._index in
     let locks = c.loop-index.locks.items in
     let seats = c.loop-index.seats.items in
     let lock = c.in-Ok.lock in
@@ -40,7 +40,7 @@ pub returns-clause-seen : goal.returns-clause-seen
 returns-clause-seen g c =
     λ i lt.
     let end = c.loop-index-test.false in
-    let up = c.loop-index.auto._place-end in
+    let up = c.loop-index.auto._index-end in
     let seats = c.loop-index.seats.items in
     let n = c.loop-index.invariant.seats in
     let eight : length seats ≡ 8 = omega (arith, n, end, up) in

@@ -8,9 +8,9 @@ use Rattle.sdb_striped_lock.proofs.striped_lock.StripedLock.new.Given as goal
 abbrev pub invariant-loop-index : goal.invariant-loop-index
 invariant-loop-index g l =
     record {
-      locks : length l.locks.items ≡ l._place;
-      seats : length l.seats.items ≡ l._place;
+      locks : length l.locks.items ≡ l._index;
+      seats : length l.seats.items ≡ l._index;
       room : (8 ≤ vec_capacity l.locks) × (8 ≤ vec_capacity l.seats);
-      own : AtEachIndex (IsRootSeat 1) l.seats.items l.locks.items 0 l._place;
-      seen : AtEachItem (λ i s. (x : g.row.T.Denot) × HasSeen s x × ((k : ℕ) → g.T.Grows.blank k x)) l.seats.items 0 l._place;
+      own : AtEachIndex (IsRootSeat 1) l.seats.items l.locks.items 0 l._index;
+      seen : AtEachItem (λ i s. (x : g.row.T.Denot) × HasSeen s x × ((k : ℕ) → g.T.Grows.blank k x)) l.seats.items 0 l._index;
     }

@@ -1,4 +1,4 @@
-//! The client, which creates a document and fetches it.
+//! A client that creates a document and fetches it.
 use std::net::{Net, SocketAddr, TcpStream};
 use std::random::RandomSource;
 use tungstenite::handshake::client::request_of;
@@ -11,15 +11,15 @@ const MESSAGES: [&str; 2] = [
 
 // Connects to the server at the address and prints the messages received. Errors end the session
 // silently.
-pub(crate) fn visit<R>(rt: R, address: SocketAddr)
+pub(crate) fn run_client<R>(rt: R, address: SocketAddr)
 where
     R: AllocGlobal + Print + Net<Stream = TcpStream> + RandomSource + Drop + Copy,
 {
-    let _ = talk(rt, address);
+    let _ = exchange_messages(rt, address);
 }
 
-// Prints the first message of the session, then the response to each request.
-fn talk<R>(rt: R, address: SocketAddr) -> Option<()>
+// Prints the init message, then the answer to each request.
+fn exchange_messages<R>(rt: R, address: SocketAddr) -> Option<()>
 where
     R: AllocGlobal + Print + Net<Stream = TcpStream> + RandomSource + Drop + Copy,
 {
