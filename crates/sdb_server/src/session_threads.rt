@@ -24,7 +24,7 @@ pub(crate) struct BackendPromise<R: Wait>(Snapshot<Backend<R>>);
 impl<R: Wait> Promise<Served> for BackendPromise<R> {
     ghost use Rattle.sdb_backend.specs.PassModel.{IsPassOfBackend};
 
-    ghost unchanged_by = { λ p served. IsPassOfBackend served.pass p.0.value };
+    ghost kept_by = { λ p served. IsPassOfBackend served.pass p.0.value };
 }
 
 /// The threads that serve clients, each in its slot, and the passes that they returned.

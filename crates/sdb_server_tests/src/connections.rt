@@ -254,12 +254,7 @@ fn send_many_requests(
 const PLAIN_REQUEST: &[u8] = b"GET / HTTP/1.1\r\nHost: localhost\r\n\r\n";
 
 // Returns the response to an HTTP request without an upgrade.
-fn plain_answer(
-    abort: &impl Abort,
-    rt: HostRuntime,
-    alloc: Global,
-    address: SocketAddr,
-) -> String {
+fn plain_answer(abort: &impl Abort, rt: HostRuntime, alloc: Global, address: SocketAddr) -> String {
     let mut stream = connect_tcp(abort, rt, address);
     assert!(abort;
         stream.write_all(PLAIN_REQUEST).is_ok() && stream.shutdown(Shutdown::Write).is_ok()
