@@ -20,7 +20,7 @@ loop-next-init g c =
     let old = g.O.AnswerSink.contents c.args.out.now in
     record {
       takes = c.version-present.ensures.accepted;
-      number = c.version-present.ensures.number;
+      number = c.version-present.ensures.number_unchanged;
       within = grind (arith, nat_tests, c.if-present-from.false);
       so_far = ([], (now, (c.version-present.ensures.step, reads_none acts c.args.from now, omega arith, inl refl, sym (append-nil old))));
     }
@@ -78,7 +78,7 @@ loop-next-preserved g c =
     let at = far.1.1.2 in
     record {
       takes = c.ops_between.ensures.accepted;
-      number = c.ops_between.ensures.number ∙ c.loop-next.invariant.number;
+      number = c.ops_between.ensures.number_unchanged ∙ c.loop-next.invariant.number;
       within = omega (arith, c.min-end.ensures);
       so_far = (
         far.0 ++ x ∷ [],

@@ -35,16 +35,16 @@ pub returns-in-Work-clause-other_queues_unchanged : goal.returns-in-Work-clause-
 returns-in-Work-clause-other_queues_unchanged c = let q = queues_of c.args.shard.now in leaves_all (plain_session_step c.args.step.now).session q q (queue_slots_of c.args.session.now) _ c.requires.queues refl c.work.ensures.slots_unchanged
 
 pub returns-in-Commit-clause-other_queues_unchanged : goal.returns-in-Commit-clause-other_queues_unchanged
-returns-in-Commit-clause-other_queues_unchanged c = leaves_all (plain_session_step c.args.step.now).session (queues_of c.args.shard.now) _ (queue_slots_of c.args.session.now) _ c.requires.queues c.commit.ensures.queues c.commit.ensures.slots_unchanged
+returns-in-Commit-clause-other_queues_unchanged c = leaves_all (plain_session_step c.args.step.now).session (queues_of c.args.shard.now) _ (queue_slots_of c.args.session.now) _ c.requires.queues c.commit.ensures.queues_unchanged c.commit.ensures.slots_unchanged
 
 pub returns-in-Fetch-clause-other_queues_unchanged : goal.returns-in-Fetch-clause-other_queues_unchanged
-returns-in-Fetch-clause-other_queues_unchanged c = let s = queue_slots_of c.args.session.now in leaves_all (plain_session_step c.args.step.now).session (queues_of c.args.shard.now) _ s s c.requires.queues c.fetch.ensures.queues refl
+returns-in-Fetch-clause-other_queues_unchanged c = let s = queue_slots_of c.args.session.now in leaves_all (plain_session_step c.args.step.now).session (queues_of c.args.shard.now) _ s s c.requires.queues c.fetch.ensures.queues_unchanged refl
 
 pub returns-in-Snapshot-clause-other_queues_unchanged : goal.returns-in-Snapshot-clause-other_queues_unchanged
-returns-in-Snapshot-clause-other_queues_unchanged c = let s = queue_slots_of c.args.session.now in leaves_all (plain_session_step c.args.step.now).session (queues_of c.args.shard.now) _ s s c.requires.queues c.snapshot.ensures.queues refl
+returns-in-Snapshot-clause-other_queues_unchanged c = let s = queue_slots_of c.args.session.now in leaves_all (plain_session_step c.args.step.now).session (queues_of c.args.shard.now) _ s s c.requires.queues c.snapshot.ensures.queues_unchanged refl
 
 pub returns-in-SnapshotAtTime-clause-other_queues_unchanged : goal.returns-in-SnapshotAtTime-clause-other_queues_unchanged
-returns-in-SnapshotAtTime-clause-other_queues_unchanged c = let s = queue_slots_of c.args.session.now in leaves_all (plain_session_step c.args.step.now).session (queues_of c.args.shard.now) _ s s c.requires.queues c.snapshot_at_time.ensures.queues refl
+returns-in-SnapshotAtTime-clause-other_queues_unchanged c = let s = queue_slots_of c.args.session.now in leaves_all (plain_session_step c.args.step.now).session (queues_of c.args.shard.now) _ s s c.requires.queues c.snapshot_at_time.ensures.queues_unchanged refl
 
 pub returns-in-Forget-clause-dispatches : goal.returns-in-Forget-clause-dispatches
 returns-in-Forget-clause-dispatches c =
@@ -56,10 +56,10 @@ returns-in-Forget-clause-dispatches c =
     let x = session_state_of q c.args.session.now in
     let y = session_state_of r c.args.session.now in
     subst (λ (z : Step). FollowsEffect m (plain.effect m (plain_session_step z).session x (plain_session_step z).act) (plain.notice_answer plain.forgotten) n y) (sym c.in-Forget.is)
-    (refl, same_core c.args.shard.now c.forget.new.self c.forget.ensures.logs_unchanged c.forget.ensures.queues, session_unchanged (option_map plain_open_attempt c.args.session.now.attempt) q r s s c.forget.ensures.queues refl)
+    (refl, same_core c.args.shard.now c.forget.new.self c.forget.ensures.logs_unchanged c.forget.ensures.queues_unchanged, session_unchanged (option_map plain_open_attempt c.args.session.now.attempt) q r s s c.forget.ensures.queues_unchanged refl)
 
 pub returns-in-Forget-clause-other_queues_unchanged : goal.returns-in-Forget-clause-other_queues_unchanged
-returns-in-Forget-clause-other_queues_unchanged c = let s = queue_slots_of c.args.session.now in leaves_all (plain_session_step c.args.step.now).session (queues_of c.args.shard.now) _ s s c.requires.queues c.forget.ensures.queues refl
+returns-in-Forget-clause-other_queues_unchanged c = let s = queue_slots_of c.args.session.now in leaves_all (plain_session_step c.args.step.now).session (queues_of c.args.shard.now) _ s s c.requires.queues c.forget.ensures.queues_unchanged refl
 
 pub subscribe-requires : goal.subscribe-requires
 subscribe-requires c = subst (λ (z : Step). SlotsOpen (plain_session_step z).session (queues_of c.args.shard.now) (queue_slots_of c.args.session.now)) c.in-Subscribe.is c.requires.queues

@@ -43,7 +43,7 @@ returns-clause-answered g c =
     let one : d.2 ≡ e.0 = have_seen_unique c.run.new.pass.seats (shard_of k) d.2 e.0 d.7 e.3 in
     let still : v ≡ version_at (logs_of e.1.shard k) t = version_unchanged k t v l d.1 d.2 e.0 e.1 d.6.0.0 d.6.0.1 d.6.0.2 some d.6.1 one (e.4.logs k) e.6.1 in
     let first : AnsweredAtExtension k forget c.args.pass.now tt c.run.new.pass =
-    (d.0, d.1, d.2, d.3, d.4, d.5, d.6.1, d.7, c.run.ensures.number, c.run.ensures.others_unchanged) in
+    (d.0, d.1, d.2, d.3, d.4, d.5, d.6.1, d.7, c.run.ensures.number_unchanged, c.run.ensures.others_unchanged) in
     let second : AnsweredAtExtension k (snapshot_at_time (Some t)) c.run.new.pass (Ok (record { version = v; snapshot = s })) c.run-2.new.pass =
-    (e.0, e.1, e.2, e.3, e.4, e.5, read_then (pass_number c.run.new.pass) (machine_of e.1.shard) (machine_of e.2.shard) k v t s still e.6.0 e.6.2, e.7, c.run-2.ensures.number, c.run-2.ensures.others_unchanged) in
+    (e.0, e.1, e.2, e.3, e.4, e.5, read_then (pass_number c.run.new.pass) (machine_of e.1.shard) (machine_of e.2.shard) k v t s still e.6.0 e.6.2, e.7, c.run-2.ensures.number_unchanged, c.run-2.ensures.others_unchanged) in
     answered_after_unchanged k forget (snapshot_at_time (Some t)) tt (Ok (record { version = v; snapshot = s })) c.args.pass.now c.run.new.pass c.run-2.new.pass first d.6.1 second

@@ -7,8 +7,8 @@ use Rattle.sdb_backend.proofs.jobs.FetchJobJobHeld.run.Goals as goal
 
 pub returns-clause-extends : goal.returns-clause-extends
 returns-clause-extends c =
-    (acts_grown c.args._number (machine_of c.args.held.now.shard) (plain_key c.args.self.key.now) call.fetch (fetch_result_view c.fetch.result) (machine_of c.fetch.new.self) tt (c.fetch.ensures.fetched, (c.fetch.ensures.logs_unchanged, c.fetch.ensures.queues))).extends
+    (acts_grown c.args._number (machine_of c.args.held.now.shard) (plain_key c.args.self.key.now) call.fetch (fetch_result_view c.fetch.result) (machine_of c.fetch.new.self) tt (c.fetch.ensures.fetched, (c.fetch.ensures.logs_unchanged, c.fetch.ensures.queues_unchanged))).extends
 
 pub returns-clause-others_unchanged : goal.returns-clause-others_unchanged
 returns-clause-others_unchanged c =
-    (acts_grown c.args._number (machine_of c.args.held.now.shard) (plain_key c.args.self.key.now) call.fetch (fetch_result_view c.fetch.result) (machine_of c.fetch.new.self) tt (c.fetch.ensures.fetched, (c.fetch.ensures.logs_unchanged, c.fetch.ensures.queues))).others
+    (acts_grown c.args._number (machine_of c.args.held.now.shard) (plain_key c.args.self.key.now) call.fetch (fetch_result_view c.fetch.result) (machine_of c.fetch.new.self) tt (c.fetch.ensures.fetched, (c.fetch.ensures.logs_unchanged, c.fetch.ensures.queues_unchanged))).others

@@ -7,8 +7,8 @@ use Rattle.sdb_backend.proofs.jobs.SnapshotAtTimeJobJobHeld.run.Goals as goal
 
 pub returns-clause-extends : goal.returns-clause-extends
 returns-clause-extends c =
-    (acts_grown c.args._number (machine_of c.args.held.now.shard) (plain_key c.args.self.key.now) (call.snapshot_at_time c.args.self.moment) (fetch_result_view c.snapshot_at_time.result) (machine_of c.snapshot_at_time.new.self) tt (c.snapshot_at_time.ensures.snapshot, (c.snapshot_at_time.ensures.logs_unchanged, c.snapshot_at_time.ensures.queues))).extends
+    (acts_grown c.args._number (machine_of c.args.held.now.shard) (plain_key c.args.self.key.now) (call.snapshot_at_time c.args.self.moment) (fetch_result_view c.snapshot_at_time.result) (machine_of c.snapshot_at_time.new.self) tt (c.snapshot_at_time.ensures.snapshot, (c.snapshot_at_time.ensures.logs_unchanged, c.snapshot_at_time.ensures.queues_unchanged))).extends
 
 pub returns-clause-others_unchanged : goal.returns-clause-others_unchanged
 returns-clause-others_unchanged c =
-    (acts_grown c.args._number (machine_of c.args.held.now.shard) (plain_key c.args.self.key.now) (call.snapshot_at_time c.args.self.moment) (fetch_result_view c.snapshot_at_time.result) (machine_of c.snapshot_at_time.new.self) tt (c.snapshot_at_time.ensures.snapshot, (c.snapshot_at_time.ensures.logs_unchanged, c.snapshot_at_time.ensures.queues))).others
+    (acts_grown c.args._number (machine_of c.args.held.now.shard) (plain_key c.args.self.key.now) (call.snapshot_at_time c.args.self.moment) (fetch_result_view c.snapshot_at_time.result) (machine_of c.snapshot_at_time.new.self) tt (c.snapshot_at_time.ensures.snapshot, (c.snapshot_at_time.ensures.logs_unchanged, c.snapshot_at_time.ensures.queues_unchanged))).others

@@ -61,11 +61,11 @@ returns-in-Some-clause-queues_unchanged c =
     let g = value_at_key empty_slot (c.get_mut.follows.lender new).entries in
     let found = value_at_lookup_some empty_slot es c.args.key.now old c.in-Some.ensures.value in
     let wrote = updated_of_write empty_slot es _ c.args.key.now old new c.in-Some.ensures.value (c.get_mut.follows.holds new).0 in
-    queues_unchanged f g k old new found wrote c.append.ensures.queues
+    queues_unchanged f g k old new found wrote c.append.ensures.queues_unchanged
 
 pub returns-in-None-clause-queues_unchanged : goal.returns-in-None-clause-queues_unchanged
 returns-in-None-clause-queues_unchanged c =
-    c.append_first.ensures.queues ∙ ap (λ m. (λ q. without_rings (value_at_key empty_slot m.entries q).queues)) c.get_mut.follows.holds-at-none
+    c.append_first.ensures.queues_unchanged ∙ ap (λ m. (λ q. without_rings (value_at_key empty_slot m.entries q).queues)) c.get_mut.follows.holds-at-none
 
 pub returns-in-Some-clause-rings : goal.returns-in-Some-clause-rings
 returns-in-Some-clause-rings c =

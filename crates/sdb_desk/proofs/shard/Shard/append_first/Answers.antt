@@ -32,7 +32,7 @@ returns-clause-caches_unchanged c =
 pub returns-clause-queues_unchanged : goal.returns-clause-queues_unchanged
 returns-clause-queues_unchanged c =
     map_of_updated_same (λ t. without_rings t.queues) (slots_of c.args.self.now) (slots_of c.insert_slot.new.self) (plain_key c.args.key.now) c.append.new.self c.in_ok-insert_slot.ensures.ok
-    (c.append.ensures.queues ∙ ap (λ t. without_rings t.queues) (c.new-slot.ensures ∙ c.requires.nothing))
+    (c.append.ensures.queues_unchanged ∙ ap (λ t. without_rings t.queues) (c.new-slot.ensures ∙ c.requires.nothing))
 
 pub returns-in_err-insert_slot-clause-rings : goal.returns-in_err-insert_slot-clause-rings
 returns-in_err-insert_slot-clause-rings c =

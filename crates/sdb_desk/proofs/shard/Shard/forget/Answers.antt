@@ -49,7 +49,7 @@ returns-in-Some-clause-queues_unchanged c =
     let g = value_at_key empty_slot (c.get_mut.follows.lender new).entries in
     let found = value_at_lookup_some empty_slot es c.args.key.now old c.in-Some.ensures.value in
     let wrote = updated_of_write empty_slot es _ c.args.key.now old new c.in-Some.ensures.value (c.get_mut.follows.holds new).0 in
-    queues_unchanged f g k old new found wrote (ap without_rings c.forget.ensures.queues)
+    queues_unchanged f g k old new found wrote (ap without_rings c.forget.ensures.queues_unchanged)
 
 pub returns-in-Some-clause-rings_unchanged : goal.returns-in-Some-clause-rings_unchanged
 returns-in-Some-clause-rings_unchanged c =
@@ -61,4 +61,4 @@ returns-in-Some-clause-rings_unchanged c =
     let g = value_at_key empty_slot (c.get_mut.follows.lender new).entries in
     let found = value_at_lookup_some empty_slot es c.args.key.now old c.in-Some.ensures.value in
     let wrote = updated_of_write empty_slot es _ c.args.key.now old new c.in-Some.ensures.value (c.get_mut.follows.holds new).0 in
-    rings_unchanged f g k old new found wrote c.forget.ensures.queues
+    rings_unchanged f g k old new found wrote c.forget.ensures.queues_unchanged

@@ -19,7 +19,7 @@ pub returns-then-ids_exhausted-clause-others_unchanged : goal.returns-then-ids_e
 returns-then-ids_exhausted-clause-others_unchanged c = updated_at_unchanged (queues_of c.args.self.now) _ (plain_key c.args.key.now) refl
 
 pub returns-in_err-version-clause-others_unchanged : goal.returns-in_err-version-clause-others_unchanged
-returns-in_err-version-clause-others_unchanged c = updated_at_unchanged (queues_of c.args.self.now) _ (plain_key c.args.key.now) c.fetch.ensures.queues
+returns-in_err-version-clause-others_unchanged c = updated_at_unchanged (queues_of c.args.self.now) _ (plain_key c.args.key.now) c.fetch.ensures.queues_unchanged
 
 pub returns-in_err-version-clause-subscribes : goal.returns-in_err-version-clause-subscribes
 returns-in_err-version-clause-subscribes c =
@@ -30,7 +30,7 @@ returns-in_err-version-clause-subscribes c =
     let p = err_from_is_err_and c.from_residual-in_err-version.result c.from_residual-in_err-version.ensures.1 in
     let wanting = read_out_of_memory read_has_document c.in_err-version.field-0.0 (fetch_result log) c.in_err-version.ensures.fetched in
     subst (λ r. SubscribesOrOutOfMemory log c.args.by c.args.version q (subscribe_result_view r) new) (sym (p.1 ∙ ap Err p.2))
-    (subscribe_out_of_memory log c.args.by c.args.version c.in_ok-start.start q new c.in_err-version.field-0.0 (sym c.in_ok-start.ensures) (sym c.ids_exhausted.ensures ∙ c.if-ids_exhausted.false) wanting (ap (λ f. f k) c.fetch.ensures.queues))
+    (subscribe_out_of_memory log c.args.by c.args.version c.in_ok-start.start q new c.in_err-version.field-0.0 (sym c.in_ok-start.ensures) (sym c.ids_exhausted.ensures ∙ c.if-ids_exhausted.false) wanting (ap (λ f. f k) c.fetch.ensures.queues_unchanged))
 
 pub returns-in_err-id-clause-subscribes : goal.returns-in_err-id-clause-subscribes
 returns-in_err-id-clause-subscribes c =
@@ -38,7 +38,7 @@ returns-in_err-id-clause-subscribes c =
     let log = logs_of c.args.self.now k in
     let q = queues_of c.args.self.now k in
     let new = queues_of c.open.new.self k in
-    let is = ap (λ f. f k) c.fetch.ensures.queues in
+    let is = ap (λ f. f k) c.fetch.ensures.queues_unchanged in
     let p = err_from_is_err_and c.from_residual-in_err-id.result c.from_residual-in_err-id.ensures.1 in
     subst (λ r. SubscribesOrOutOfMemory log c.args.by c.args.version q (subscribe_result_view r) new) (sym (p.1 ∙ ap Err p.2))
     (subscribe_refused log c.args.by c.args.version c.in_ok-start.start q new c.in_err-id.field-0.0 (sym c.in_ok-start.ensures) (sym c.ids_exhausted.ensures ∙ c.if-ids_exhausted.false)
@@ -49,7 +49,7 @@ returns-clause-subscribes c =
     let k = plain_key c.args.key.now in
     let log = logs_of c.args.self.now k in
     let q = queues_of c.args.self.now k in
-    let is = ap (λ f. f k) c.fetch.ensures.queues in
+    let is = ap (λ f. f k) c.fetch.ensures.queues_unchanged in
     let told = c.in_ok-version.field-0 in
     subscribe_done log c.args.by c.args.version c.in_ok-start.start c.in_ok-id.id told.version q (queues_of c.open.new.self k) (option_map value_of told.snapshot) (sym c.in_ok-start.ensures)
     (c.in_ok-id.ensures.ok ∙ ap (λ w. w.next) is) (subst (λ w. open_queue c.args.by c.in_ok-start.start w ≡ Ok (queues_of c.open.new.self k)) is c.in_ok-id.ensures.opened) c.in_ok-version.ensures.fetched
@@ -57,4 +57,4 @@ returns-clause-subscribes c =
 pub returns-clause-rings : goal.returns-clause-rings
 returns-clause-rings c =
     let k = plain_key c.args.key.now in
-    subst (λ f. ringed_queues_of c.open.new.self ≡ with_ringed_queues f k (append_ringed_queue c.in_ok-id.id c.args.by c.in_ok-start.start (f k))) c.fetch.ensures.rings c.in_ok-id.ensures.rings
+    subst (λ f. ringed_queues_of c.open.new.self ≡ with_ringed_queues f k (append_ringed_queue c.in_ok-id.id c.args.by c.in_ok-start.start (f k))) c.fetch.ensures.rings_unchanged c.in_ok-id.ensures.rings

@@ -15,8 +15,8 @@ returns-in-Some-clause-equal c =
     changed_same (get_by_text old) (get_by_text new) src (Some numbers) (hash_map_updates_text src old new (Some numbers) ((c.get_mut.follows.holds numbers).3 (search rules)))
     (λ n. c.reserve.ensures.entries.2 n ∙ ap (λ o. number_in (λ _. o) src n) c.in-Some.ensures.value)
 
-pub returns-in-Some-clause-room : goal.returns-in-Some-clause-room
-returns-in-Some-clause-room c =
+pub returns-in-Some-clause-reserved : goal.returns-in-Some-clause-reserved
+returns-in-Some-clause-reserved c =
     let numbers = c.reserve.new.self in
     on_ok c.reserve.result (λ h. (numbers, ((c.get_mut.follows.holds numbers).3 (search rules)).1, omega (arith, h))) c.reserve.ensures.ok
 

@@ -29,6 +29,6 @@ invariant_of-result c =
           (ap (λ l. is_some (snap (l ++ e ∷ []))) same ∙ ap (λ x. is_some (snap (c.args.self.log ++ x ∷ []))) is ∙ c.requires.alive)
           (let m : e.moment ≡ max c.args.now (last_moment es) = ap (λ (x : PlainEntry). x.moment) c.new-entry.ensures ∙ moment in omega (arith, m))
           (let n : length es ≡ length c.args.self.log = ap length same in omega (arith, n, c.requires.bound))
-          c.append.ensures.places,
-      put_used c.self.inside.index c.append.new.index e.arrived.src e.arrived.seq (length es) (λ s n. c.self.invariant.3 s (λ k. n (k ∙ ap (λ (x : PlainEntry). x.arrived.src) (sym c.new-entry.ensures)))) c.append.ensures.has_entries c.append.ensures.places,
+          c.append.ensures.versions,
+      put_used c.self.inside.index c.append.new.index e.arrived.src e.arrived.seq (length es) (λ s n. c.self.invariant.3 s (λ k. n (k ∙ ap (λ (x : PlainEntry). x.arrived.src) (sym c.new-entry.ensures)))) c.append.ensures.has_entries c.append.ensures.versions,
     )

@@ -4,6 +4,6 @@ use Rattle.sdb_desk.specs.View.{plain_outcome}
 use Rattle.sdb_submit.specs.laws.SubmitLaws.{moved_is_look}
 use Rattle.sdb_service_tests.proofs.submit.ContendedStoreDesk.commit.Goals as goal
 
-pub returns-clause-looked : goal.returns-clause-looked
-returns-clause-looked c =
+pub returns-clause-seen : goal.returns-clause-seen
+returns-clause-seen c =
     moved_is_look (logs_of c.store_other.new.self.shard) (logs_of c.commit.new.self) (plain_key c.args.key.now) c.args.work.now c.args.now (plain_outcome c.commit.result) c.commit.ensures.commits

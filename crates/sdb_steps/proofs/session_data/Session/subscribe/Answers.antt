@@ -54,10 +54,10 @@ returns-in-Ok-subscribe-clause-dispatches c =
       given = c.requires;
       opened = told.subscribes;
       stands = told.open;
-      others = told.others;
+      others = told.others_unchanged;
       slots = c.fill_slot.ensures ∙ ap (λ (g : PlainQueueSlots). with_value_at_key g k (Some f.id)) c.in-Ok.ensures.unchanged;
       closed = c.close_queue.ensures.queues ∙ ap (λ p. with_queues q1 k (close_in c.args.by p (q1 k))) c.in-Ok.ensures.number;
-      logs = c.close_queue.ensures.logs_unchanged ∙ told.logs;
+      logs = c.close_queue.ensures.logs_unchanged ∙ told.logs_unchanged;
     } in
     joined_turn c.args.by q0 q1 q2 l0 l2 s0 s2 k c.args.version o a h
 
@@ -79,10 +79,10 @@ returns-in-Ok-subscribe-clause-other_queues_unchanged c =
       given = c.requires;
       opened = told.subscribes;
       stands = told.open;
-      others = told.others;
+      others = told.others_unchanged;
       slots = c.fill_slot.ensures ∙ ap (λ (g : PlainQueueSlots). with_value_at_key g k (Some f.id)) c.in-Ok.ensures.unchanged;
       closed = c.close_queue.ensures.queues ∙ ap (λ p. with_queues q1 k (close_in c.args.by p (q1 k))) c.in-Ok.ensures.number;
-      logs = c.close_queue.ensures.logs_unchanged ∙ told.logs;
+      logs = c.close_queue.ensures.logs_unchanged ∙ told.logs_unchanged;
     } in
     joined_leaves c.args.by q0 q1 q2 l0 l2 s0 s2 k c.args.version o a h
 
@@ -101,8 +101,8 @@ returns-in-Err-subscribe-clause-dispatches c =
     let t = queue_slots_in c.drop_empty_slot.new.slots.entries in
     let y : SessionState = record { attempt = a; queues = λ j. position_in_queues (q1 j) (t j) } in
     subst (λ (z : PlainStepAnswer). DispatchesAct c.args.by m x (subscribe k v) z n y) (sym c.refused_start-in-Err-subscribe.ensures)
-    (subscribe_refused c.args.by m n (q0 k) (q1 k) x y k v c.in-Err-subscribe.code c.in_default.field-0 (sym c.in_default.ensures) refl told.subscribes told.logs
-    (λ e. (same_core c.args.shard.now c.subscribe.new.self told.logs (unchanged_queues q0 q1 k told.others e), session_unchanged a q0 q1 (queue_slots_of c.args.self.now) t (unchanged_queues q0 q1 k told.others e) slots))).1
+    (subscribe_refused c.args.by m n (q0 k) (q1 k) x y k v c.in-Err-subscribe.code c.in_default.field-0 (sym c.in_default.ensures) refl told.subscribes told.logs_unchanged
+    (λ e. (same_core c.args.shard.now c.subscribe.new.self told.logs_unchanged (unchanged_queues q0 q1 k told.others_unchanged e), session_unchanged a q0 q1 (queue_slots_of c.args.self.now) t (unchanged_queues q0 q1 k told.others_unchanged e) slots))).1
 
 pub returns-in-Err-subscribe-clause-other_queues_unchanged : goal.returns-in-Err-subscribe-clause-other_queues_unchanged
 returns-in-Err-subscribe-clause-other_queues_unchanged c =
@@ -111,4 +111,4 @@ returns-in-Err-subscribe-clause-other_queues_unchanged c =
     let k = plain_key c.args.key.now in
     let told = c.in-Err-subscribe.ensures in
     let slots = c.drop_empty_slot.ensures ∙ c.in-Ok.ensures.unchanged in
-    leaves_all c.args.by q0 q1 (queue_slots_of c.args.self.now) _ c.requires (unchanged_queues q0 q1 k told.others (refused_same (logs_of c.args.shard.now k) c.args.by c.args.version (q0 k) (q1 k) c.in-Err-subscribe.code told.subscribes)) slots
+    leaves_all c.args.by q0 q1 (queue_slots_of c.args.self.now) _ c.requires (unchanged_queues q0 q1 k told.others_unchanged (refused_same (logs_of c.args.shard.now k) c.args.by c.args.version (q0 k) (q1 k) c.in-Err-subscribe.code told.subscribes)) slots

@@ -22,7 +22,7 @@ returns-clause-dispatches c =
     let w = stands_of c.args.by _ (c.requires k n at).1 in
     let told = c.unsubscribe.ensures in
     let shut = value_of_updated q0 q1 k (close_queue c.args.by n (q0 k)) told.queues in
-    let h : TakeFacts c.args.by q0 q1 l0 l1 s t k n w.0 a = record { all = c.requires; at = at; stands = w.1; others = updated_of_write_at q0 q1 k (close_queue c.args.by n (q0 k)) told.queues; next = ap (λ z. z.next) shut; logs = told.logs } in
+    let h : TakeFacts c.args.by q0 q1 l0 l1 s t k n w.0 a = record { all = c.requires; at = at; stands = w.1; others = updated_of_write_at q0 q1 k (close_queue c.args.by n (q0 k)) told.queues; next = ap (λ z. z.next) shut; logs = told.logs_unchanged } in
     closed_turn c.args.by q0 q1 l0 l1 s t k n w.0 a h shut c.drop_slot.ensures
 
 pub returns-clause-other_queues_unchanged : goal.returns-clause-other_queues_unchanged
@@ -40,5 +40,5 @@ returns-clause-other_queues_unchanged c =
     let w = stands_of c.args.by _ (c.requires k n at).1 in
     let told = c.unsubscribe.ensures in
     let shut = value_of_updated q0 q1 k (close_queue c.args.by n (q0 k)) told.queues in
-    let h : TakeFacts c.args.by q0 q1 l0 l1 s t k n w.0 a = record { all = c.requires; at = at; stands = w.1; others = updated_of_write_at q0 q1 k (close_queue c.args.by n (q0 k)) told.queues; next = ap (λ z. z.next) shut; logs = told.logs } in
+    let h : TakeFacts c.args.by q0 q1 l0 l1 s t k n w.0 a = record { all = c.requires; at = at; stands = w.1; others = updated_of_write_at q0 q1 k (close_queue c.args.by n (q0 k)) told.queues; next = ap (λ z. z.next) shut; logs = told.logs_unchanged } in
     closed_leaves c.args.by q0 q1 l0 l1 s t k n w.0 a h shut c.drop_slot.ensures
