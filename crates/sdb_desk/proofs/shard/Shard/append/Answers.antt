@@ -45,11 +45,11 @@ returns-in-Some-clause-caches_unchanged c =
     let g = value_at_key empty_slot (c.get_mut.follows.lender new).entries in
     let found = value_at_lookup_some empty_slot es c.args.key.now old c.in-Some.ensures.value in
     let wrote = updated_of_write empty_slot es _ c.args.key.now old new c.in-Some.ensures.value (c.get_mut.follows.holds new).0 in
-    map_of_updated_same (λ t. t.document.cache) f g k new wrote (c.append.ensures.kept ∙ ap (λ t. t.document.cache) found)
+    map_of_updated_same (λ t. t.document.cache) f g k new wrote (c.append.ensures.cache_unchanged ∙ ap (λ t. t.document.cache) found)
 
 pub returns-in-None-clause-caches_unchanged : goal.returns-in-None-clause-caches_unchanged
 returns-in-None-clause-caches_unchanged c =
-    c.append_first.ensures.kept ∙ ap (λ m. (λ q. (value_at_key empty_slot m.entries q).document.cache)) c.get_mut.follows.holds-at-none
+    c.append_first.ensures.caches_unchanged ∙ ap (λ m. (λ q. (value_at_key empty_slot m.entries q).document.cache)) c.get_mut.follows.holds-at-none
 
 pub returns-in-Some-clause-queues_unchanged : goal.returns-in-Some-clause-queues_unchanged
 returns-in-Some-clause-queues_unchanged c =

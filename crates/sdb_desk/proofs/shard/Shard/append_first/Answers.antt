@@ -27,7 +27,7 @@ returns-clause-logs c =
 pub returns-clause-caches_unchanged : goal.returns-clause-caches_unchanged
 returns-clause-caches_unchanged c =
     map_of_updated_same (λ t. t.document.cache) (slots_of c.args.self.now) (slots_of c.insert_slot.new.self) (plain_key c.args.key.now) c.append.new.self c.in_ok-insert_slot.ensures.ok
-    (c.append.ensures.kept ∙ ap (λ t. t.document.cache) (c.new-slot.ensures ∙ c.requires.nothing))
+    (c.append.ensures.cache_unchanged ∙ ap (λ t. t.document.cache) (c.new-slot.ensures ∙ c.requires.nothing))
 
 pub returns-clause-queues_unchanged : goal.returns-clause-queues_unchanged
 returns-clause-queues_unchanged c =

@@ -30,7 +30,7 @@ returns-in-Some-clause-caches c =
     let g = value_at_key empty_slot (c.get_mut.follows.lender new).entries in
     let found = value_at_lookup_some empty_slot es c.args.key.now old c.in-Some.ensures.value in
     let wrote = updated_of_write empty_slot es _ c.args.key.now old new c.in-Some.ensures.value (c.get_mut.follows.holds new).0 in
-    map_of_updated (λ t. t.document.cache) f g k new wrote ∙ ap (with_cache (caches_of c.args.self.now) k) c.forget.ensures.kept
+    map_of_updated (λ t. t.document.cache) f g k new wrote ∙ ap (with_cache (caches_of c.args.self.now) k) c.forget.ensures.cache
 
 pub returns-in_default-clause-caches : goal.returns-in_default-clause-caches
 returns-in_default-clause-caches c =

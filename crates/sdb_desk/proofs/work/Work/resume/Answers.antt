@@ -16,7 +16,7 @@ from_content-requires c =
     let is_old : c.as_slice.result.now ≡ old = c.as_slice.ensures.value ∙ ap (λ a. a.look.missed) c.into_parts-attempt.ensures.attempt in
     let long : length c.as_slice.result.now ≡ n = c.as_slice.ensures.len ∙ sym c.len-known.ensures in
     let front : old ≡ take n new =
-    sym is_old ∙ c.if-not-is_front.ensures.same refl ∙ ap (λ k. take k c.as_slice-2.result.now) long ∙ ap (take n) c.as_slice-2.ensures.value in
+    sym is_old ∙ c.if-not-is_front.ensures.on_true refl ∙ ap (λ k. take k c.as_slice-2.result.now) long ∙ ap (take n) c.as_slice-2.ensures.value in
     ap (λ k. rebased_content_of k c.in-Some.worked) (sym c.content.ensures)
     ∙ c.in-Some.ensures
     ∙ ap (λ k. result_and_then (λ j. rebase j c.entries_after-fresh.result.now) (rebased_content_of k w)) (c.content.ensures ∙ same)

@@ -1,0 +1,486 @@
+/**
+ * The connection to the server, and the documents over it.
+ * @module
+ */
+import { Emitter } from './emitter.js';
+import { Refusal } from './errors.js';
+import { close as closeDoc, coreFor, keep, run } from './doc.js';
+import { isName } from './limits.js';
+import { dataOf } from './machine.js';
+import { isObject } from './ot/component.js';
+
+/** @typedef {'connecting' | 'connected' | 'disconnected' | 'failed' | 'closed'} ClientState */
+/**
+ * Why a connection ended: `full` (the server serves its limit of clients), `going away` (it shuts down, or the client
+ * was silent), `refused` (the connection was never open), `too long` (a message), `out of memory`, `protocol`,
+ * `timeout` (no handshake in time), `silent` (no sign of life), `disconnected` (by `disconnect` or `close`), `failed`
+ * (the server breaks the protocol), or `lost`.
+ * @typedef {'full' | 'going away' | 'refused' | 'too long' | 'out of memory' | 'protocol' | 'timeout' | 'silent' |
+ *   'disconnected' | 'failed' | 'lost'} CloseReason
+ */
+/** @typedef {{code: number, reason: CloseReason, text: string}} Closing the WebSocket's code, and the server's text */
+/**
+ * @typedef {object} ClientEvents
+ * @property {ClientState} state
+ * @property {Closing} close a connection, or an attempt, has ended
+ * @property {Refusal} error an error that names no document: `state` says whether the client continues
+ */
+/**
+ * @typedef {object} Clock
+ * @property {() => number} now milliseconds
+ * @property {(action: () => void, delay: number) => any} setTimeout
+ * @property {(timer: any) => void} clearTimeout
+ */
+/**
+ * @typedef {object} ClientOptions
+ * @property {string} [source] names this client in all its edits. No two clients may share one, and none may be reused
+ *   after a reload: a number that the server knows is a duplicate. Random by default.
+ * @property {any} [WebSocket] the class, if there is no global one
+ * @property {boolean} [connect] false: the client connects only when `connect` is called
+ * @property {number} [connectTimeout] milliseconds until an attempt without a handshake is given up: 20000
+ * @property {number} [heartbeat] milliseconds of silence after which a sign of life is requested: 20000
+ * @property {number} [retryDelay] milliseconds before the first reconnect: 1000. The delay is doubled each time, and
+ *   shortened by up to a half at random
+ * @property {number} [longestDelay] the longest delay: 30000
+ * @property {number} [mostTries] after this many failures in a row the client ends, with the state 'failed'
+ * @property {Clock} [clock] the timers; those of the platform by default
+ * @property {() => number} [random] from 0 to below 1, for the delays
+ */
+
+const REASONS = {
+  1001: 'going away',
+  1002: 'protocol',
+  1007: 'protocol',
+  1009: 'too long',
+  1011: 'out of memory',
+  1013: 'full',
+};
+
+const NOTHING = { code: 1006, reason: '' };
+
+/** @type {Clock} */
+const PLATFORM = {
+  now: () => Date.now(),
+  setTimeout: (action, delay) => setTimeout(action, delay),
+  clearTimeout: (timer) => clearTimeout(timer),
+};
+
+function keyOf(collection, id) {
+  return JSON.stringify([collection, id]);
+}
+
+// Twenty random letters and digits.
+function randomSource() {
+  const bytes = globalThis.crypto.getRandomValues(new Uint8Array(20));
+  return Array.from(bytes, (byte) => (byte % 32).toString(32)).join('');
+}
+
+function refusalOf(message) {
+  return new Refusal(message.error.code, message.error.message);
+}
+
+/**
+ * A connection to the server, opened at once and reopened if it is lost, and the documents over it.
+ * @extends {Emitter<ClientEvents>}
+ */
+export class Client extends Emitter {
+  /**
+   * @param {string | (() => string)} address as `ws://127.0.0.1:8080`; a function is called at each attempt, so that it
+   * may return a new token
+   * @param {ClientOptions} [options]
+   */
+  constructor(address, options = {}) {
+    super();
+    const { source = randomSource(), WebSocket = globalThis['WebSocket'] } = options;
+    if (typeof WebSocket !== 'function') {
+      throw new Error("there is no WebSocket here: hand one over, as new Client(address, { WebSocket: require('ws') })");
+    }
+    if (!isName(source)) throw new Error('a source is a text of 1 to 200 bytes');
+    const connection = new Connection(this, address, { ...options, source, WebSocket });
+    Object.defineProperty(this, '_client', { value: () => connection });
+    if (options.connect !== false) this.connect();
+  }
+
+  /**
+   * The server's address.
+   * @returns {string | (() => string)}
+   */
+  get address() {
+    return connectionOf(this).address;
+  }
+
+  /** @returns {string} */
+  get source() {
+    return connectionOf(this).source;
+  }
+
+  /** @returns {ClientState} */
+  get state() {
+    return connectionOf(this).state;
+  }
+
+  /**
+   * Why the client has failed.
+   * @returns {Refusal | null}
+   */
+  get error() {
+    return connectionOf(this).error;
+  }
+
+  /**
+   * Why the last connection, or the last attempt, ended.
+   * @returns {Closing | null}
+   */
+  get closing() {
+    return connectionOf(this).closing;
+  }
+
+  /**
+   * Whether an edit of any document waits for more than two seconds.
+   * @returns {boolean}
+   */
+  get waiting() {
+    return [...connectionOf(this).documents.values()].some(({ waiting }) => waiting);
+  }
+
+  /** Connects, and reconnects if the connection is lost. */
+  connect() {
+    connectionOf(this).connect();
+  }
+
+  /** Closes the connection. What is submitted from now on is sent after the next `connect`. */
+  disconnect() {
+    connectionOf(this).disconnect();
+  }
+
+  /** Closes the connection and all documents for good. Pending edits are dropped: their promises fail with ERR_CLOSED. */
+  close() {
+    connectionOf(this).close();
+  }
+
+  /**
+   * The document of this collection and id, the same object until it is destroyed.
+   * @template [T=any]
+   * @param {string} collection or the name of a projection, which has some fields only
+   * @param {string} id
+   * @returns {import('./doc.js').Doc<T>}
+   */
+  document(collection, id) {
+    return connectionOf(this).document(collection, id);
+  }
+
+  /**
+   * A document at a version.
+   * @param {string} collection
+   * @param {string} id
+   * @param {number | null} [version] the present one by default
+   * @returns {Promise<import('./doc.js').Snapshot>}
+   */
+  snapshot(collection, id, version = null) {
+    return connectionOf(this).snapshot({ a: 'nf', c: collection, d: id, v: version });
+  }
+
+  /**
+   * A document at a time of the server's clock.
+   * @param {string} collection
+   * @param {string} id
+   * @param {number | null} [moment] in milliseconds since 1970; the present version without one
+   * @returns {Promise<import('./doc.js').Snapshot>}
+   */
+  snapshotAtTime(collection, id, moment = null) {
+    return connectionOf(this).snapshot({ a: 'nt', c: collection, d: id, ts: moment });
+  }
+
+  /** @returns {Promise<void>} is fulfilled when nothing is pending in any document */
+  async whenNothingPending() {
+    await Promise.all([...connectionOf(this).documents.values()].map(({ doc }) => doc.whenNothingPending()));
+  }
+}
+
+function connectionOf(client) {
+  return client._client();
+}
+
+class Connection {
+  constructor(client, address, options) {
+    this.client = client;
+    this.address = address;
+    this.source = options.source;
+    this.WebSocket = options.WebSocket;
+    const { connectTimeout = 20000, heartbeat = 20000, retryDelay = 1000, longestDelay = 30000 } = options;
+    Object.assign(this, { connectTimeout, heartbeat, retryDelay });
+    this.longestDelay = Math.max(longestDelay, retryDelay);
+    this.mostTries = options.mostTries === undefined ? Infinity : options.mostTries;
+    this.clock = options.clock || PLATFORM;
+    this.random = options.random || Math.random;
+    this.state = 'disconnected';
+    this.error = null;
+    this.closing = null;
+    this.wanted = false;
+    this.socket = null;
+    this.isOpened = false; // the server has sent its opening message
+    this.isAlive = false; // a message was received since the last request for a sign of life
+    this.timer = null; // of the next attempt, of the present one, or of the next sign of life
+    this.tries = 0; // connections that failed or were lost since the last handshake
+    this.number = 0; // of the last own edit
+    this.requested = 0; // of the last requested snapshot
+    this.requests = new Map(); // requested snapshots, by number: { text, isOwn, told }
+    this.documents = new Map();
+    this.transport = {
+      source: this.source,
+      clock: this.clock,
+      nextNumber: () => (this.number += 1),
+      send: (text) => this.send(text),
+      later: (action) => this.later(action),
+      compare: (c, d, v, told) => this.request({ a: 'nf', c, d, v }, true, told),
+      snapshot: (c, d, v) => this.snapshot({ a: 'nf', c, d, v }),
+      snapshotAtTime: (c, d, ts) => this.snapshot({ a: 'nt', c, d, ts }),
+      forget: ({ collection, id }) => this.documents.delete(keyOf(collection, id)),
+    };
+  }
+
+  // Calls --------------------------------------------------------------------------------------------------------
+
+  connect() {
+    if (this.state === 'closed') throw new Refusal('ERR_CLOSED');
+    this.wanted = true;
+    this.tries = 0;
+    this.error = null;
+    if (this.socket === null) this.open();
+  }
+
+  disconnect() {
+    this.wanted = false;
+    this.setTimer(null);
+    this.end('disconnected');
+  }
+
+  close() {
+    if (this.state === 'closed') return;
+    this.disconnect();
+    for (const core of this.documents.values()) closeDoc(core);
+    this.documents.clear();
+    this.rejectRequests(new Refusal('ERR_CLOSED'));
+    this.setState('closed');
+  }
+
+  document(collection, id) {
+    if (this.state === 'closed') throw new Refusal('ERR_CLOSED');
+    if (!isName(collection) || !isName(id)) throw new Error('a collection and an id are texts of 1 to 200 bytes');
+    const key = keyOf(collection, id);
+    if (!this.documents.has(key)) {
+      const core = coreFor(this.transport, collection, id);
+      this.documents.set(key, core);
+      if (this.state === 'connected') run(core, { type: 'connected' });
+    }
+    const core = this.documents.get(key);
+    keep(core);
+    return core.doc;
+  }
+
+  snapshot(message) {
+    if (this.state === 'closed') return Promise.reject(new Refusal('ERR_CLOSED'));
+    return new Promise((resolve, reject) => {
+      this.request(message, false, ({ snapshot, error }) => (error ? reject(error) : resolve(snapshot)));
+    });
+  }
+
+  // Snapshots ----------------------------------------------------------------------------------------------------
+
+  // Requests a snapshot. One for a document itself is of use only over this connection.
+  request(message, isOwn, told) {
+    this.requested += 1;
+    const text = JSON.stringify({ ...message, id: this.requested });
+    this.requests.set(this.requested, { text, isOwn, told });
+    this.send(text);
+  }
+
+  receiveSnapshot(message) {
+    const request = this.requests.get(message.id);
+    if (!request) return;
+    if (message.error && message.error.code === 'ERR_OUT_OF_MEMORY') {
+      this.later(() => this.send(request.text));
+      return;
+    }
+    this.requests.delete(message.id);
+    if (message.error) request.told({ error: refusalOf(message) });
+    else request.told({ snapshot: { version: message.v, data: dataOf(message) } });
+  }
+
+  rejectRequests(error) {
+    const requests = [...this.requests.values()];
+    this.requests.clear();
+    for (const { told } of requests) told({ error });
+  }
+
+  // Sending ------------------------------------------------------------------------------------------------------
+
+  send(text) {
+    if (this.state === 'connected') this.socket.send(text);
+  }
+
+  sendHandshake() {
+    this.socket.send(JSON.stringify({ a: 'hs', id: this.source, protocol: 1 }));
+  }
+
+  // Runs an action after the delay, if the connection is still the same.
+  later(action) {
+    const { socket } = this;
+    this.clock.setTimeout(() => socket === this.socket && socket !== null && action(), this.retryDelay);
+  }
+
+  setTimer(action, delay) {
+    if (this.timer !== null) this.clock.clearTimeout(this.timer);
+    const started = () => {
+      this.timer = null;
+      action();
+    };
+    this.timer = action === null ? null : this.clock.setTimeout(started, delay);
+  }
+
+  // The connection -----------------------------------------------------------------------------------------------
+
+  open() {
+    const address = typeof this.address === 'function' ? this.address() : this.address;
+    const socket = new this.WebSocket(address);
+    this.socket = socket;
+    this.isOpened = false;
+    this.setTimer(() => this.end('timeout'), this.connectTimeout);
+    socket.onmessage = (event) => socket === this.socket && this.read(event.data);
+    socket.onerror = () => {};
+    socket.onclose = (event) => socket === this.socket && this.lost(closingOf(event || NOTHING, this.isOpened));
+    this.setState('connecting');
+  }
+
+  // Ends the connection from here.
+  end(reason) {
+    const { socket } = this;
+    if (socket === null) return;
+    this.lost({ code: 1000, reason, text: '' });
+    socket.close();
+  }
+
+  lost(closing) {
+    this.socket = null;
+    this.tries += 1;
+    this.setTimer(null);
+    this.state = 'disconnected';
+    this.closing = closing;
+    for (const [number, { isOwn }] of this.requests) if (isOwn) this.requests.delete(number);
+    if (this.wanted && this.tries <= this.mostTries) this.setTimer(() => this.reopen(), this.delay());
+    for (const core of this.documents.values()) run(core, { type: 'disconnected' });
+    this.client.emit('close', closing);
+    this.client.emit('state', 'disconnected');
+    if (this.wanted && this.tries > this.mostTries) this.fail(new Refusal('ERR_UNREACHABLE'));
+  }
+
+  reopen() {
+    try {
+      this.open();
+    } catch (error) {
+      this.fail(new Refusal('ERR_UNREACHABLE', error.message));
+    }
+  }
+
+  delay() {
+    const grown = Math.min(this.longestDelay, this.retryDelay * 2 ** Math.min(this.tries - 1, 30));
+    return grown * (1 - this.random() / 2);
+  }
+
+  // Nothing is tried before the next `connect`.
+  fail(error) {
+    this.wanted = false;
+    this.error = error;
+    this.end('failed');
+    this.state = 'failed';
+    this.rejectRequests(error);
+    for (const core of this.documents.values()) run(core, { type: 'failed', error });
+    this.client.emit('state', 'failed');
+    this.client.emit('error', error);
+  }
+
+  setState(state) {
+    this.state = state;
+    this.client.emit('state', state);
+  }
+
+  // A server that hangs sends no sign of life: the connection is then given up.
+  checkAlive() {
+    if (!this.isAlive) {
+      this.end('silent');
+      return;
+    }
+    this.isAlive = false;
+    this.send('{"a":"hs"}');
+    this.setTimer(() => this.checkAlive(), this.heartbeat);
+  }
+
+  // Receiving ----------------------------------------------------------------------------------------------------
+
+  read(text) {
+    this.isAlive = true;
+    let message = null;
+    try {
+      message = JSON.parse(text);
+    } catch {
+      // no such server sends this
+    }
+    if (isMessage(message)) this.receive(message);
+    else this.fail(new Refusal('ERR_PROTOCOL'));
+  }
+
+  receive(message) {
+    if (this.state === 'connecting') this.receiveOpening(message);
+    else if (message.a === 'nf' || message.a === 'nt') this.receiveSnapshot(message);
+    else if (message.a !== 'init' && message.a !== 'hs') this.receiveForDocument(message);
+  }
+
+  receiveOpening(message) {
+    if (message.a === 'hs' && message.error && message.error.code === 'ERR_OUT_OF_MEMORY') {
+      this.later(() => this.sendHandshake());
+    } else if (message.error) {
+      this.fail(refusalOf(message));
+    } else if (message.a === 'init') {
+      this.isOpened = true;
+      this.sendHandshake();
+    } else if (message.a === 'hs') {
+      this.connected();
+    } else {
+      this.fail(new Refusal('ERR_PROTOCOL'));
+    }
+  }
+
+  connected() {
+    this.tries = 0;
+    this.state = 'connected';
+    this.isAlive = true;
+    this.setTimer(() => this.checkAlive(), this.heartbeat);
+    for (const { text } of this.requests.values()) this.send(text);
+    // (a listener may disconnect, or ask for further documents, meanwhile)
+    const { socket } = this;
+    for (const core of [...this.documents.values()]) {
+      if (this.socket === socket && core.machine.state === 'offline') run(core, { type: 'connected' });
+    }
+    if (this.socket === socket) this.client.emit('state', 'connected');
+  }
+
+  receiveForDocument(message) {
+    const core = this.documents.get(keyOf(message.c, message.d));
+    const error = message.error ? refusalOf(message) : null;
+    if (core) run(core, { type: 'message', message, error });
+    else if (error) this.client.emit('error', error);
+  }
+}
+
+function closingOf({ code = NOTHING.code, reason = '' }, isOpened) {
+  return { code, reason: REASONS[code] || (isOpened ? 'lost' : 'refused'), text: String(reason) };
+}
+
+// Checks the members on which the client relies.
+function isMessage(message) {
+  if (!isObject(message)) return false;
+  const { a, error, v, op } = message;
+  if (error !== undefined) return isObject(error);
+  if (a !== 'op') return true;
+  return Number.isSafeInteger(v) && v >= 0 && (op === undefined || Array.isArray(op));
+}

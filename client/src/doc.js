@@ -1,0 +1,381 @@
+/**
+ * A document, as an application uses it.
+ * @module
+ */
+import { Emitter, report } from './emitter.js';
+import { Refusal, refuse } from './errors.js';
+import { TYPE } from './limits.js';
+import { Machine } from './machine.js';
+import { readData, readOperation } from './ot/component.js';
+
+/** Milliseconds after which a pending edit is reported as waiting. */
+export const PATIENCE = 2000;
+
+/** @typedef {import('./ot/component.js').Operation} Operation */
+/** @typedef {import('./content.js').Content} Content */
+/** @typedef {import('./machine.js').State} DocState */
+/**
+ * A stored operation.
+ * @typedef {Content & {version: number, source: string, seq: number}} Entry
+ */
+/**
+ * A document at a version; `data` is undefined if none existed.
+ * @template [T=any]
+ * @typedef {{version: number, data: T | undefined}} Snapshot
+ */
+/** @typedef {{version: number, source: string, seq: number}} Seen */
+/**
+ * The events of a document. `source` is, for an own edit, the argument of `submit`, `create` or `remove`, or else this
+ * client's source; for others it is their writer's source.
+ * @template [T=any]
+ * @typedef {object} DocEvents
+ * @property {{version: number}} load the whole document was received, at first and after a restart of the server
+ * @property {{operation: Operation, source: any, local: boolean, before: T, data: T}} op an operation changed `data`
+ * @property {{source: any, local: boolean, data: T}} create the document was created
+ * @property {{source: any, local: boolean, data: T}} remove the document was deleted; `data` is the document before it
+ * @property {{operation: Operation | null, source: any, local: boolean, before: T | undefined, data: T | undefined}}
+ *   change `data` has changed: by an operation or, if that is null, as a whole
+ * @property {Seen} version a stored operation of any client was received
+ * @property {Seen} stored an own operation was received
+ * @property {{error: Refusal, contents: Content[]}} refused own edits were dropped
+ * @property {{version: number, data: T | undefined, contents: Content[]}} restarted the server was restarted and has
+ *   lost the document: `data` is the document as it was stored, `contents` are the pending edits, which are dropped
+ * @property {{version: number}} healed the document here differed from the server's and was replaced
+ * @property {{waiting: boolean}} waiting an edit waits for more than two seconds, or none does any more
+ * @property {Refusal} error the document can't be subscribed to or fetched
+ */
+/** @typedef {{source?: any}} SubmitOptions `source` is any value, which listeners receive */
+
+/**
+ * A document that is fetched or subscribed to, and edited. `Client.document` returns it.
+ * @template [T=any]
+ * @extends {Emitter<DocEvents<T>>}
+ */
+export class Doc extends Emitter {
+  /**
+   * @param {any} transport
+   * @param {string} collection
+   * @param {string} id
+   * @package
+   */
+  constructor(transport, collection, id) {
+    super();
+    const { source, nextNumber, clock } = transport;
+    const machine = new Machine({ collection, id, source, nextNumber, now: clock.now });
+    // (the state is in a closure, so that a proxy of the document works too)
+    const core = { doc: this, transport, machine, collection, id, waiting: false, timer: null, leaving: null };
+    Object.defineProperty(this, '_doc', { value: () => core });
+  }
+
+  /** A collection, or the name of a projection. */
+  get collection() {
+    return coreOf(this).collection;
+  }
+
+  /** @returns {string} */
+  get id() {
+    return coreOf(this).id;
+  }
+
+  /**
+   * The state over this connection.
+   * @returns {DocState}
+   */
+  get state() {
+    return coreOf(this).machine.state;
+  }
+
+  /**
+   * The version seen, null before the first answer.
+   * @returns {number | null}
+   */
+  get version() {
+    return coreOf(this).machine.version;
+  }
+
+  /**
+   * The document with own edits: never change it. It is undefined if none exists.
+   * @returns {T | undefined}
+   */
+  get data() {
+    return coreOf(this).machine.data;
+  }
+
+  /**
+   * The server's document at `version`, without pending edits.
+   * @returns {T | undefined}
+   */
+  get confirmed() {
+    return coreOf(this).machine.confirmed;
+  }
+
+  /**
+   * The source of this client's edits.
+   * @returns {string}
+   */
+  get source() {
+    return coreOf(this).machine.source;
+  }
+
+  /**
+   * The number of own edits that aren't known to be stored; edits in a row count as one.
+   * @returns {number}
+   */
+  get pending() {
+    return coreOf(this).machine.pending;
+  }
+
+  /**
+   * Whether an edit waits for more than two seconds, with a connection or without.
+   * @returns {boolean}
+   */
+  get waiting() {
+    return coreOf(this).waiting;
+  }
+
+  /**
+   * Whether a subscription is wanted.
+   * @returns {boolean}
+   */
+  get wanted() {
+    return coreOf(this).machine.wanted;
+  }
+
+  // Reading ------------------------------------------------------------------------------------------------------
+
+  /**
+   * Brings the document up to date, without a subscription.
+   * @returns {Promise<this>} is fulfilled when `data` is the document at the server's version of the fetch
+   */
+  fetch() {
+    return ignorable(asked(this, { type: 'fetch' }).then(() => this));
+  }
+
+  /**
+   * Subscribes to the document, over this connection and the next ones.
+   * @returns {Promise<this>} is fulfilled when the document is loaded and the server sends its operations
+   */
+  subscribe() {
+    return ignorable(asked(this, { type: 'subscribe' }).then(() => this));
+  }
+
+  /**
+   * Unsubscribes from the document. Pending edits are still sent.
+   * @returns {Promise<void>} is fulfilled when the server has answered, or at once without a connection
+   */
+  unsubscribe() {
+    return asked(this, { type: 'unsubscribe' });
+  }
+
+  /**
+   * Waits until nothing is pending, unsubscribes, and drops the document: the client then returns another object for it.
+   * If `Client.document` is called for it before, the document stays.
+   * @param {{discard?: boolean}} [options] `discard` drops pending edits instead of waiting for them
+   * @returns {Promise<void>}
+   */
+  async destroy({ discard = false } = {}) {
+    const core = coreOf(this);
+    const { machine } = core;
+    core.leaving = core.leaving || {};
+    const { leaving } = core;
+    const isKept = () => machine.state === 'closed' || core.leaving !== leaving;
+    if (discard) run(core, { type: 'discard', error: new Refusal('ERR_CLOSED') });
+    await until(core, () => machine.pending === 0 || isKept());
+    if (isKept()) return;
+    await this.unsubscribe();
+    // Answers that are received later must not reach the next object of this document.
+    await until(core, () => machine.isQuiet || machine.state === 'offline' || isKept());
+    if (isKept()) return;
+    core.transport.forget(this);
+    close(core);
+  }
+
+  /**
+   * The document at a version.
+   * @param {number | null} [version] the present one by default
+   * @returns {Promise<Snapshot<T>>}
+   */
+  snapshot(version = null) {
+    return coreOf(this).transport.snapshot(this.collection, this.id, version);
+  }
+
+  /**
+   * The document at a time of the server's clock.
+   * @param {number | null} [moment] in milliseconds since 1970, as Date.now() returns; the present version without one
+   * @returns {Promise<Snapshot<T>>}
+   */
+  snapshotAtTime(moment = null) {
+    return coreOf(this).transport.snapshotAtTime(this.collection, this.id, moment);
+  }
+
+  /**
+   * The stored operations from a version on.
+   * @param {number} [from]
+   * @returns {Promise<Entry[]>}
+   */
+  operations(from = 0) {
+    return asked(this, { type: 'list', from });
+  }
+
+  // Writing ------------------------------------------------------------------------------------------------------
+
+  /**
+   * Creates the document.
+   * @param {T} data
+   * @param {SubmitOptions} [options]
+   * @returns {Promise<{version: number}>} the version at which it is stored; refused with ERR_DOC_ALREADY_CREATED if
+   * the document exists
+   */
+  create(data, options) {
+    return /** @type {any} */ (submitted(this, () => ({ create: { type: TYPE, data: readData(data) } }), options));
+  }
+
+  /**
+   * Creates the document if none exists. If another client was first, its document stays.
+   * @param {T} data
+   * @returns {Promise<void>} is fulfilled when the document exists
+   */
+  createIfAbsent(data) {
+    return ignorable(createdIfAbsent(this, data));
+  }
+
+  /**
+   * Edits the document. The edit changes `data` at once, and is sent once the one in flight is stored. It is completed
+   * by `data`: `ld` and `od` become the values that are removed.
+   * @param {Operation} operation on `data`
+   * @param {SubmitOptions} [options]
+   * @returns {Promise<{version: number | null}>} the version at which it is stored, null if there was nothing to store.
+   * If it can't be applied here it is refused at once, and nothing is changed.
+   */
+  submit(operation, options) {
+    return submitted(this, () => ({ op: readOperation(operation) }), options);
+  }
+
+  /**
+   * Deletes the document.
+   * @param {SubmitOptions} [options]
+   * @returns {Promise<{version: number}>}
+   */
+  remove(options) {
+    return /** @type {any} */ (submitted(this, () => ({ del: true }), options));
+  }
+
+  /**
+   * @param {() => void} [listener]
+   * @returns {Promise<void>} is fulfilled when nothing is pending
+   */
+  whenNothingPending(listener) {
+    const settled = until(coreOf(this), (machine) => machine.pending === 0);
+    if (listener) settled.then(listener).catch(report);
+    return settled;
+  }
+}
+
+function coreOf(doc) {
+  return doc._doc();
+}
+
+// A promise that may be ignored: an event reports the same.
+function ignorable(promise) {
+  promise.catch(() => {});
+  return promise;
+}
+
+/**
+ * Runs a transition of the document, and then its effects.
+ * @package
+ */
+export function run(core, input) {
+  const { transport, machine, doc } = core;
+  const { messages, settled, events, retries, comparison } = machine.transition(input);
+  for (const message of messages) transport.send(message);
+  for (const retry of retries) transport.later(() => run(core, retry));
+  if (comparison !== null) compare(core, comparison);
+  for (const settle of settled) settle();
+  observeWaiting(core, events);
+  for (const [name, detail] of events) doc.emit(name, detail);
+}
+
+function compare(core, comparison) {
+  const told = (more) => run(core, { type: 'compared', comparison, ...more });
+  core.transport.compare(core.collection, core.id, comparison.version, told);
+}
+
+// Looks whether an edit waits, and looks again once the oldest one is old enough.
+function observeWaiting(core, events) {
+  const { machine, transport } = core;
+  const { clock } = transport;
+  const since = machine.pendingSince;
+  const waiting = since !== null && clock.now() - since >= PATIENCE;
+  if (core.timer !== null) clock.clearTimeout(core.timer);
+  core.timer = null;
+  if (since !== null && !waiting) {
+    const again = () => {
+      core.timer = null;
+      const told = [];
+      observeWaiting(core, told);
+      for (const [name, detail] of told) core.doc.emit(name, detail);
+    };
+    core.timer = clock.setTimeout(again, since + PATIENCE - clock.now());
+  }
+  if (waiting === core.waiting) return;
+  core.waiting = waiting;
+  events.push(['waiting', { waiting }]);
+}
+
+/** Closes the document: whatever waits is refused. @package */
+export function close(core) {
+  run(core, { type: 'closed', error: new Refusal('ERR_CLOSED') });
+}
+
+/** The client is asked for the document: it isn't destroyed any more. @package */
+export function keep(core) {
+  if (core.leaving === null) return;
+  core.leaving = null;
+  run(core, { type: 'kept' });
+}
+
+/** @package */
+export function coreFor(transport, collection, id) {
+  return coreOf(new Doc(transport, collection, id));
+}
+
+// Runs a transition whose answer settles a promise.
+function asked(doc, input) {
+  return new Promise((resolve, reject) => run(coreOf(doc), { ...input, waiter: { resolve, reject } }));
+}
+
+function until(core, holds, begins = false) {
+  return new Promise((resolve, reject) => run(core, { type: 'until', holds, begins, waiter: { resolve, reject } }));
+}
+
+// An edit that can't be applied here is refused before `data` changes.
+function submitted(doc, read, options) {
+  const { source = doc.source } = options || {};
+  const submit = () => {
+    const { machine } = coreOf(doc);
+    machine.checkLoaded();
+    return asked(doc, { type: 'submit', content: read(), source });
+  };
+  try {
+    return ignorable(submit());
+  } catch (error) {
+    return Promise.reject(error);
+  }
+}
+
+async function createdIfAbsent(doc, data) {
+  const core = coreOf(doc);
+  const { machine } = core;
+  machine.checkLoaded();
+  const read = readData(data);
+  if (machine.data === undefined) {
+    try {
+      await doc.create(read);
+    } catch (error) {
+      if (error.code !== 'ERR_DOC_ALREADY_CREATED') throw error;
+    }
+  }
+  await until(core, () => machine.confirmed !== undefined || machine.isSettled, true);
+  if (machine.confirmed === undefined) refuse('ERR_DOC_DOES_NOT_EXIST');
+}

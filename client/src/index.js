@@ -1,0 +1,43 @@
+/**
+ * The client of the Navirotsohy server.
+ *
+ *     import { Client } from 'navirotsohy';
+ *
+ *     const client = new Client('ws://127.0.0.1:8080');
+ *     const board = client.document('board', 'demo');
+ *     board.on('change', () => show(board.data));
+ *     await board.subscribe();
+ *     await board.createIfAbsent({ votes: 0 });
+ *     await board.submit([{ p: ['votes'], na: 1 }]);
+ * @module
+ */
+export { Client } from './connection.js';
+export { Doc } from './doc.js';
+export { Emitter } from './emitter.js';
+export { Refusal } from './errors.js';
+export { apply, complete, compose, cross, invert, textChange, transformComponent, transformOffset } from './ot/index.js';
+
+/** @typedef {import('./ot/component.js').Data} Data */
+/** @typedef {import('./ot/component.js').Path} Path */
+/** @typedef {import('./ot/component.js').Component} Component */
+/** @typedef {import('./ot/component.js').Operation} Operation */
+/** @typedef {import('./content.js').Content} Content */
+/** @typedef {import('./errors.js').Code} Code */
+/** @typedef {import('./doc.js').Entry} Entry */
+/** @typedef {import('./doc.js').DocState} DocState */
+/** @typedef {import('./doc.js').Seen} Seen */
+/** @typedef {import('./doc.js').SubmitOptions} SubmitOptions */
+/** @typedef {import('./connection.js').Clock} Clock */
+/** @typedef {import('./connection.js').Closing} Closing */
+/** @typedef {import('./connection.js').CloseReason} CloseReason */
+/** @typedef {import('./connection.js').ClientEvents} ClientEvents */
+/** @typedef {import('./connection.js').ClientOptions} ClientOptions */
+/** @typedef {import('./connection.js').ClientState} ClientState */
+/**
+ * @template [T=any]
+ * @typedef {import('./doc.js').Snapshot<T>} Snapshot
+ */
+/**
+ * @template [T=any]
+ * @typedef {import('./doc.js').DocEvents<T>} DocEvents
+ */

@@ -1,0 +1,406 @@
+#!/usr/bin/python3
+"""A client that shows its edits at once. Its names are those of docs/CLIENT_ALGORITHM.md. It needs python3-websockets.
+
+    client = Client("ws://127.0.0.1:8080")
+    board = client.document("board", "1", on_change=lambda board: print(board.shown))
+    asyncio.create_task(client.run())
+    board.submit([{"p": ["votes"], "na": 1}])
+
+As a program, examples/client.py ws://127.0.0.1:8080 COLLECTION ID, it prints a document at each change.
+"""
+import asyncio
+import functools
+import json
+import random
+import secrets
+import sys
+
+import websockets
+
+MAX = 9007199254740991
+LEFT, RIGHT = "left", "right"
+MOST_COMPONENTS, LONGEST_MESSAGE = 256, 1_048_576
+FIRST_PAUSE, LONGEST_PAUSE = 1, 30  # seconds before an attempt to connect
+ABSENT = object()  # in place of a document that doesn't exist
+CREATED, DELETED, MISSING = "ERR_DOC_ALREADY_CREATED", "ERR_DOC_WAS_DELETED", "ERR_DOC_DOES_NOT_EXIST"
+NOT_APPLIED, TOO_NEW, NO_MEMORY = "ERR_OT_OP_NOT_APPLIED", "ERR_OP_VERSION_NEWER_THAN_CURRENT_SNAPSHOT", "ERR_OUT_OF_MEMORY"
+NOT_READY, RESTARTED, TOO_LONG = "the document isn't loaded", "the server was restarted", "the message is too long"
+
+
+class Refused(Exception):
+    """A content that can't be applied or transformed; its argument is a code."""
+
+
+# Components: `na`, `si`, `sd`, `li`, `ld`, `ldli` (a replaced item), `oi`, `od`, `odoi` (a replaced value) -------------
+
+
+def shape(c):
+    return "".join(it for it in ("na", "si", "sd", "ld", "li", "od", "oi") if it in c)
+
+
+def container(c):
+    return c["p"] if "na" in c else c["p"][:-1]
+
+
+def cut(text, offset):
+    """Returns the parts of a text before and after an offset in UTF-16 units."""
+    data = text.encode("utf-16-le")
+    try:
+        if 2 * offset <= len(data):
+            return data[: 2 * offset].decode("utf-16-le"), data[2 * offset :].decode("utf-16-le")
+    except UnicodeDecodeError:  # inside a surrogate pair
+        pass
+    raise Refused(NOT_APPLIED)
+
+
+def changed_at(value, path, change):
+    """Returns a new value with a change at a path. It shares what is unchanged."""
+    if not path:
+        return change(value)
+    step, rest = path[0], path[1:]
+    if isinstance(value, dict) and isinstance(step, str) and step in value:
+        return {**value, step: changed_at(value[step], rest, change)}
+    if isinstance(value, list) and isinstance(step, int) and step < len(value):
+        return [*value[:step], changed_at(value[step], rest, change), *value[step + 1 :]]
+    raise Refused(NOT_APPLIED)
+
+
+def apply_component(value, c):
+    kind, last = shape(c), c["p"][-1] if c["p"] else None
+
+    def change(it):
+        if kind == "na" and type(it) is int and abs(it + c["na"]) <= MAX:
+            return it + c["na"]
+        if kind[0] == "s" and isinstance(it, str):
+            before, after = cut(it, last)
+            if after.startswith(c.get("sd", "")):
+                return before + c.get("si", "") + after[len(c.get("sd", "")) :]
+        if kind[0] == "l" and isinstance(it, list) and last < len(it) + (kind == "li"):
+            return [*it[:last], *([c["li"]] if "li" in c else []), *it[last + ("ld" in c) :]]
+        if kind[0] == "o" and isinstance(it, dict):
+            return {**it, last: c["oi"]} if "oi" in c else {key: it[key] for key in it if key != last}
+        raise Refused(NOT_APPLIED)
+
+    return changed_at(value, container(c), change)
+
+
+def completed(document, operation):
+    """Returns the operation with removed values from the document, and the document after it."""
+    done = []
+    for c in operation:
+        removed = {"ld": "ld", "ldli": "ld", "oi": "od", "od": "od", "odoi": "od"}.get(shape(c))
+        if removed:
+            places, last = [], c["p"][-1]
+            changed_at(document, container(c), places.append)
+            is_there = last in places[0] if removed == "od" else last < len(places[0])
+            c = {name: it for name, it in c.items() if name != removed}
+            c.update({removed: places[0][last]} if is_there else {})
+        if shape(c):
+            document = apply_component(document, c)
+            done.append(c)
+    return done, document
+
+
+# Transform (docs/TRANSFORM.md) ----------------------------------------------------------------------------------------
+
+
+def transform(c, o, side):
+    """Returns the components that replace c after the concurrent component o."""
+    mine, theirs, kinds = container(c), container(o), (shape(c)[0], shape(o)[0])
+    if mine == theirs:
+        rules = {("s", "s"): texts, ("l", "l"): lists, ("o", "o"): objects}.get(kinds, lambda *_: [c])
+        return rules(c, o, side)
+    if mine[: len(theirs)] == theirs:
+        return inside(c, o, len(theirs))
+    removed = next((it for it in ("ld", "od") if it in c and theirs[: len(c["p"])] == c["p"]), None)
+    try:
+        return [{**c, removed: apply_component(c[removed], {**o, "p": o["p"][len(c["p"]) :]})}] if removed else [c]
+    except Refused:
+        return [c]
+
+
+def moved(c, position, **members):
+    if position > MAX:
+        raise Refused(NOT_APPLIED)
+    return {**c, "p": [*c["p"][:-1], position], **members}
+
+
+def texts(c, o, side):
+    p, r = c["p"][-1], o["p"][-1]
+    more, less, mine = (len(it.encode("utf-16-le")) // 2 for it in (o.get("si", ""), o.get("sd", ""), c.get("sd", "")))
+    if "si" in c and "si" in o:
+        return [moved(c, p + more)] if r < p or (r == p and side == RIGHT) else [c]
+    if "si" in c:
+        return [c] if p <= r else [moved(c, max(r, p - less))]
+    if "si" in o:
+        if r <= p or r >= p + mine:
+            return [moved(c, p + more)] if r <= p else [c]
+        first, second = cut(c["sd"], r - p)
+        return [moved(c, p, sd=first), moved(c, p + more, sd=second)]
+    if r + less <= p or p + mine <= r:
+        return [moved(c, p - less)] if r + less <= p else [c]
+    left = cut(c["sd"], max(0, r - p))[0] + cut(c["sd"], min(mine, r + less - p))[1]
+    return [moved(c, min(p, r), sd=left)] if left else []
+
+
+def lists(c, o, side):
+    j, i, mine, other = c["p"][-1], o["p"][-1], shape(c), shape(o)
+    if other == "li":
+        stays = i > j or (i == j and mine == "li" and side == LEFT)
+        return [c] if stays else [moved(c, j + 1)]
+    if i != j or mine == "li":
+        return [moved(c, j - 1)] if other == "ld" and i < j else [c]
+    if mine == "ld" or (other == "ldli" and side == RIGHT):
+        return []
+    return [{**c, "ld": o["li"]}] if other == "ldli" else [{"p": c["p"], "li": c["li"]}]
+
+
+def objects(c, o, side):
+    if c["p"][-1] != o["p"][-1] or (shape(c), shape(o)) in (("od", "oi"), ("oi", "od")):
+        return [c]
+    if "oi" not in c or ("oi" in o and side == RIGHT):
+        return []
+    return [{**c, "od": o["oi"]}] if "oi" in o else [{"p": c["p"], "oi": c["oi"]}]
+
+
+def inside(c, o, length):
+    """c is inside o's container, whose path has this length."""
+    kind, step = shape(o), c["p"][length]
+    if kind in ("ld", "ldli", "od", "odoi") and o["p"][-1] == step:
+        return []
+    if kind not in ("li", "ld") or isinstance(step, str):
+        return [c]
+    by = int(o["p"][-1] <= step) if kind == "li" else -int(o["p"][-1] < step)
+    return [{**c, "p": [*moved({"p": c["p"][: length + 1]}, step + by)["p"], *c["p"][length + 1 :]]}]
+
+
+def cross(left, right):
+    """Transforms two operations against each other."""
+    if not left or not right:
+        return left, right
+    if len(left) == len(right) == 1:
+        return transform(left[0], right[0], LEFT), transform(right[0], left[0], RIGHT)
+    middle = (len(right) if len(right) > 1 else len(left)) // 2
+    if len(right) > 1:
+        left, first = cross(left, right[:middle])
+        left, second = cross(left, right[middle:])
+        return left, first + second
+    first, right = cross(left[:middle], right)
+    second, right = cross(left[middle:], right)
+    return first + second, right
+
+
+def apply_content(document, content):
+    """A content is {"op": ..}, {"create": ..} or {"del": true}."""
+    if "del" in content:
+        return ABSENT
+    if ("create" in content) == (document is not ABSENT):
+        raise Refused(CREATED if "create" in content else MISSING)
+    if "create" in content:
+        return content["create"]["data"]
+    return functools.reduce(apply_component, content["op"], document)
+
+
+def cross_contents(pending, received):
+    """Returns both transformed; None is a received content without effect."""
+    if "create" in received or ("create" in pending and "op" in received):
+        raise Refused(CREATED)
+    if "del" in pending:
+        return pending, None
+    if "del" in received:
+        raise Refused(DELETED)
+    mine, other = cross(pending["op"], received["op"])
+    return {"op": mine}, {"op": other}
+
+
+class Document:
+    """A document of one client: `stored` is the server's at `version`, `shown` has the pending contents too."""
+
+    def __init__(self, client, place, on_change, on_dropped):
+        self.client, self.place, self.seq = client, place, 0
+        self.on_change, self.on_dropped = on_change, on_dropped
+        self.start_anew()
+
+    def start_anew(self):
+        self.version, self.stored, self.shown = None, ABSENT, ABSENT
+        self.sent, self.now, self.queue = None, None, []  # the message in flight, its transformed content, later contents
+        self.early, self.ack, self.last = {}, None, None  # `last` has the source and number of the operation before `version`
+        self.is_ready = self.is_checked = False  # the start is complete; the connection's history is the known one
+
+    @property
+    def pending(self):
+        return ([self.now] if self.now else []) + self.queue
+
+    def submit(self, operation):
+        if self.shown is ABSENT:
+            raise Refused(MISSING)
+        operation, shown = completed(self.shown, operation)
+        self.add({"op": operation}, shown)
+
+    def create(self, data):
+        content = {"create": {"type": "json0", "data": data}}
+        self.add(content, apply_content(self.shown, content))
+
+    def delete(self):
+        self.add({"del": True}, ABSENT)
+
+    def add(self, content, shown):
+        if not self.is_ready:
+            raise Refused(NOT_READY)
+        self.shown = shown
+        joins = "op" in content and self.queue and "op" in self.queue[-1]
+        self.queue.append({"op": self.queue.pop()["op"] + content["op"]} if joins else content)
+        self.send_next()
+        self.on_change(self)
+
+    def send_next(self):
+        """Sends the queue's first content, of at most 256 components, if nothing is in flight."""
+        if self.sent or not self.queue or not self.is_checked:
+            return
+        content = self.queue.pop(0)
+        if len(content.get("op", ())) > MOST_COMPONENTS:
+            self.queue.insert(0, {"op": content["op"][MOST_COMPONENTS:]})
+            content = {"op": content["op"][:MOST_COMPONENTS]}
+        self.seq += 1
+        name = {"v": self.version, "src": self.client.source, "seq": self.seq}
+        self.now, self.sent = content, {"a": "op", **self.place, **name, **content}
+        too_long = len(json.dumps(self.sent)) > LONGEST_MESSAGE
+        self.drop_all(TOO_LONG) if too_long else self.client.send(self.sent)
+
+    def drop_all(self, code):
+        dropped, self.sent, self.now, self.queue, self.shown = self.pending, None, None, [], self.stored
+        self.on_dropped(self, dropped, code)
+
+    def connected(self):
+        self.is_checked, self.version = False, self.version if self.is_ready else None
+        start = {} if self.version is None else {"v": max(0, self.version - 1)}
+        self.client.send({"a": "s", **self.place, **start})
+
+    def restarted(self):
+        self.drop_all(RESTARTED)
+        self.start_anew()
+        self.connected()
+
+    def receive(self, message):
+        code = message.get("error", {}).get("code")
+        if code == TOO_NEW:
+            self.restarted()
+        elif code == NO_MEMORY:
+            self.client.reconnect()  # after a pause, and sends again
+        elif code:
+            self.drop_all(code) if self.now else self.on_dropped(self, [], code)
+            self.sent = self.sent if message["a"] != "op" else None
+            self.send_next()
+        elif message["a"] == "op":
+            self.receive_operation(message, (message["src"], message["seq"]))
+        elif "data" in message:  # a start; a list shows who made the last operation
+            self.version = message["data"]["v"]
+            self.stored = self.shown = message["data"].get("data") if "data" in message["data"] else ABSENT
+            self.client.send({"a": "f", **self.place, "v": max(0, self.version - 1)})
+        elif not self.is_checked and (message["a"] == "f" or self.is_ready):  # the end of the first list
+            self.is_ready = self.is_checked = True
+            if self.sent:
+                self.client.send(self.sent)
+            self.send_next()
+        self.on_change(self)
+
+    def receive_operation(self, message, name):
+        version, has_content = message["v"], any(it in message for it in ("op", "create", "del"))
+        if self.version is not None and has_content and version == self.version - 1 and not self.is_checked:
+            if self.last not in (None, name):
+                return self.restarted()
+            self.last = name
+        if self.version is None or version < self.version:
+            return
+        if self.now and name == (self.client.source, self.sent["seq"]):
+            self.ack = version
+        elif has_content:
+            self.early[version] = message
+        while self.ack == self.version or self.version in self.early:
+            if self.ack == self.version:
+                self.last, self.stored = (self.client.source, self.sent["seq"]), apply_content(self.stored, self.now)
+                self.sent = self.now = self.ack = None
+            else:
+                message = self.early.pop(self.version)
+                self.last = message["src"], message["seq"]
+                self.process({it: message[it] for it in ("op", "create", "del") if it in message})
+            self.version += 1
+        self.send_next()
+
+    def process(self, received):
+        """Applies a received content, and transforms the pending contents against it."""
+        self.stored = self.shown = apply_content(self.stored, received)
+        pending, kept = self.pending, []
+        try:
+            for content in pending:
+                if received:
+                    content, received = cross_contents(content, received)
+                self.shown = apply_content(self.shown, content)
+                kept.append(content)
+        except Refused as refused:
+            self.on_dropped(self, pending[len(kept) :], *refused.args)
+        if self.now:
+            self.now = kept.pop(0) if kept else None
+        self.queue = kept
+
+
+class Client:
+    """A connection that is opened again after it is lost, and its documents."""
+
+    def __init__(self, url, source=None, first_pause=FIRST_PAUSE):
+        self.url, self.source, self.first_pause = url, source or secrets.token_hex(16), first_pause
+        self.documents, self.socket, self.outgoing = {}, None, None
+
+    def document(self, collection, name, on_change=lambda it: None, on_dropped=lambda it, contents, code: None):
+        found = self.documents[collection, name] = Document(self, {"c": collection, "d": name}, on_change, on_dropped)
+        if self.outgoing:
+            found.connected()
+        return found
+
+    def send(self, message):
+        if self.outgoing:
+            self.outgoing.put_nowait(json.dumps(message))
+
+    def reconnect(self):
+        self.socket.transport.abort()
+
+    async def run(self):
+        pause = self.first_pause
+        while True:
+            try:
+                async with websockets.connect(self.url, max_size=None) as self.socket:
+                    await self.serve()
+            except (OSError, websockets.WebSocketException, asyncio.TimeoutError):
+                pass
+            pause, self.outgoing = self.first_pause if self.outgoing else min(2 * pause, LONGEST_PAUSE), None
+            await asyncio.sleep(pause * random.uniform(0.5, 1))
+
+    async def serve(self):
+        if json.loads(await self.socket.recv())["protocol"] != 1:
+            raise SystemExit("the server has another protocol")
+        self.outgoing = asyncio.Queue()
+        self.send({"a": "hs", "id": self.source})
+        for document in self.documents.values():
+            document.connected()
+        writer = asyncio.create_task(self.write())
+        try:
+            async for text in self.socket:
+                message = json.loads(text)
+                if (message.get("c"), message.get("d")) in self.documents:
+                    self.documents[message["c"], message["d"]].receive(message)
+        finally:
+            writer.cancel()
+
+    async def write(self):
+        while True:
+            await self.socket.send(await self.outgoing.get())
+
+
+async def main(url, collection, name):
+    client = Client(url)
+    client.document(collection, name, lambda it: print(it.version, "-" if it.shown is ABSENT else json.dumps(it.shown), flush=True))
+    await client.run()
+
+
+if __name__ == "__main__":
+    sys.exit(asyncio.run(main(*sys.argv[1:])) if len(sys.argv) == 4 else __doc__)

@@ -1,0 +1,64 @@
+"""The memory that clients can hold, by the proved program."""
+import attacks
+import pytest
+from support.dialogue import ROOT
+from support.frames import frame, text
+from support.server import Server
+from test_all_at_once import HELD
+
+LONG_LOG, LISTERS, LIST_HELD = 200_000, 8, 1  # operations of a log, clients that list it, and megabytes for each
+LISTED = {"c": "long", "d": "1"}
+MESSAGES = attacks.DENSE + attacks.CREATES
+
+
+def test_readme_has_the_bound():
+    row = next(line for line in (ROOT / "README.md").read_text().splitlines() if "Memory that a client can hold" in line)
+    assert f" {HELD} MB" in row
+
+
+@pytest.mark.slow
+@pytest.mark.parametrize("number", range(len(MESSAGES)))
+def test_large_message(proved_program, number):
+    """64 clients send the last byte of a message of a megabyte at one moment."""
+    with Server(proved_program) as server:
+        base = server.megabytes()
+        connections = [server.enter() for _ in range(attacks.SERVED)]
+        data = frame(MESSAGES[number])
+        for connection in connections:
+            connection.send(data[:-1])
+        for connection in connections:
+            connection.send(data[-1:])
+        for connection in connections:
+            connection.message()
+        held = (server.megabytes("VmHWM") - base) / attacks.SERVED
+    print(f"{held:.0f} MB")
+    assert held <= HELD
+
+
+def store_many(server, count):
+    """Stores a document and `count` edits of it, a thousand at a time."""
+    with server.enter() as writer:
+        writer.ask({"a": "op", **LISTED, "src": "writer", "seq": 1, "create": {"type": "json0", "data": 0}})
+        edit = {"a": "op", **LISTED, "src": "writer", "op": [{"p": [], "na": 1}]}
+        for first in range(2, count + 2, 1_000):
+            edits = range(first, min(first + 1_000, count + 2))
+            writer.send(b"".join(text({**edit, "seq": it}) for it in edits))
+            for _ in edits:
+                writer.frame()
+
+
+@pytest.mark.slow
+def test_list_that_nobody_reads(proved_program):
+    """Clients request all operations of a long log, by `f` or by `s`, and read none until the server disconnects them."""
+    with Server(proved_program) as server:
+        store_many(server, LONG_LOG)
+        attacks.wait_for_sockets(server, 1)
+        base = server.megabytes()
+        server.restart_maximum()
+        listers = [server.enter() for _ in range(LISTERS)]
+        for number, lister in enumerate(listers):
+            lister.send(text({"a": "fs"[number % 2], **LISTED, "v": 0}))
+        attacks.wait_for_sockets(server, 1)
+        held = (server.megabytes("VmHWM") - base) / LISTERS
+    print(f"{held:.2f} MB")
+    assert held <= LIST_HELD

@@ -1,0 +1,1 @@
+"""What several test suites share: the server, WebSocket frames, random edits, the examples of the documents, packages."""

@@ -1,0 +1,142 @@
+"""WebSocket frames and handshakes, byte by byte, for tests that break the rules."""
+import base64
+import json
+import os
+import socket
+import struct
+import time
+
+TEXT, BINARY, CLOSE, PING, PONG = 1, 2, 8, 9, 10
+NO_STATUS = None  # of a connection that is closed without a close frame
+PATIENCE = 60  # seconds for an answer
+TRY_AGAIN = 1013
+HEAD = "GET / HTTP/1.1\r\nHost: localhost\r\nUpgrade: websocket\r\nConnection: Upgrade\r\nSec-WebSocket-Version: 13\r\n"
+
+
+class Fault(AssertionError):
+    """The server differs from its documents."""
+
+
+class Full(Exception):
+    """The server has no free place."""
+
+
+def handshake():
+    return f"{HEAD}Sec-WebSocket-Key: {base64.b64encode(os.urandom(16)).decode()}\r\n\r\n".encode()
+
+
+def frame(payload, kind=TEXT, last=True, length=None):
+    """Returns a masked frame, with another length in its head if one is given."""
+    length = len(payload) if length is None else length
+    first = bytes([kind | (0x80 if last else 0)])
+    if length < 126:
+        head = first + bytes([0x80 | length])
+    elif length < 65_536:
+        head = first + struct.pack(">BH", 0xFE, length)
+    else:
+        head = first + struct.pack(">BQ", 0xFF, length)
+    mask = os.urandom(4)
+    return head + mask + masked(payload, mask)
+
+
+def masked(payload, mask):
+    whole = mask * (len(payload) // 4 + 1)
+    return (int.from_bytes(payload, "big") ^ int.from_bytes(whole[: len(payload)], "big")).to_bytes(len(payload), "big")
+
+
+def text(message):
+    return frame(json.dumps(message).encode())
+
+
+def status_of(payload):
+    return int.from_bytes(payload[:2], "big") if payload else NO_STATUS
+
+
+class Connection:
+    def __init__(self, address, patience=PATIENCE):
+        self.socket = socket.create_connection(address, patience)
+        self.socket.setsockopt(socket.IPPROTO_TCP, socket.TCP_NODELAY, 1)
+        self.received = b""
+
+    def __enter__(self):
+        return self
+
+    def __exit__(self, *_):
+        self.socket.close()
+
+    def send(self, data):
+        self.socket.sendall(data)
+
+    def read_more(self):
+        more = self.socket.recv(65_536)
+        if not more:
+            raise EOFError
+        self.received += more
+
+    def read(self, count):
+        while len(self.received) < count:
+            self.read_more()
+        first, self.received = self.received[:count], self.received[count:]
+        return first
+
+    def upgrade(self):
+        self.send(handshake())
+        while b"\r\n\r\n" not in self.received:
+            self.read_more()
+        head, self.received = self.received.split(b"\r\n\r\n", 1)
+        if not head.startswith(b"HTTP/1.1 101 "):
+            raise Fault(f"a handshake is answered {head[:40]}")
+        return head
+
+    def enter(self):
+        """Performs the handshake and reads the server's first message."""
+        self.upgrade()
+        kind, payload = self.frame()
+        if kind == CLOSE and status_of(payload) == TRY_AGAIN:
+            self.socket.close()
+            raise Full
+        if kind != TEXT or json.loads(payload)["a"] != "init":
+            raise Fault(f"the first message is a frame {kind} {payload[:40]}")
+        return self
+
+    def frame(self):
+        """Returns the kind and the payload of the next frame. The server fragments none."""
+        first, second = self.read(2)
+        length = second & 0x7F
+        if length > 125:
+            length = int.from_bytes(self.read(2 if length == 126 else 8), "big")
+        return first & 0x0F, self.read(length)
+
+    def message(self):
+        """Returns the next text as JSON."""
+        while True:
+            kind, payload = self.frame()
+            if kind == TEXT:
+                return json.loads(payload)
+            if kind == CLOSE:
+                raise Fault(f"the connection is closed with {status_of(payload)}")
+            if kind == PING:
+                self.send(frame(payload, PONG))
+
+    def ask(self, message):
+        self.send(text(message))
+        return self.message()
+
+    def status(self, seconds=PATIENCE):
+        """Returns the status with which the server closes the connection. It must come within these seconds."""
+        end = time.monotonic() + seconds
+        try:
+            while True:
+                self.socket.settimeout(max(0.01, end - time.monotonic()))
+                kind, payload = self.frame()
+                if kind == CLOSE:
+                    return status_of(payload)
+        except socket.timeout:
+            raise Fault(f"the connection is open after {seconds} seconds") from None
+        except (EOFError, OSError):
+            return NO_STATUS
+
+    def tear(self):
+        """Closes the connection by a reset."""
+        self.socket.setsockopt(socket.SOL_SOCKET, socket.SO_LINGER, struct.pack("ii", 1, 0))
+        self.socket.close()
