@@ -44,7 +44,7 @@ pub seen_at : (q r : QueuesByKey) (s t : PlainQueueSlots) (k : PlainKey) (w : Pl
     → ◌≡◌ {A = PlainKey → Option QueuePosition} (λ j. position_in_queues (r j) (t j)) (λ j. cond (keys_equal k j) p (position_in_queues (q j) (s j)))
 seen_at q r s t k w o p hr ht h = λ i j. (ap (λ (f : QueuesByKey). position_in_queues (f j) (t j)) hr ∙ ap (λ (f : PlainQueueSlots). position_in_queues (with_queues q k w j) (f j)) ht ∙ seen_if (keys_equal k j) w (q j) o (s j) p h) i
 
-module _ (i : ℕ) (q r : QueuesByKey) (s t : PlainQueueSlots) (k : PlainKey) (w : PlainQueues) (o : Option ℕ) (opens : SlotsOpen i q s) (hr : r ≡ with_queues q k w) (ht : t ≡ with_value_at_key s k o) where
+module _ (i : ℕ) (q r : QueuesByKey) (s t : PlainQueueSlots) (k : PlainKey) (queues_after : PlainQueues) (o : Option ℕ) (are_open : SlotsOpen i q s) (hr : r ≡ with_queues q k queues_after) (ht : t ≡ with_value_at_key s k o) where
   abbrev NextNotLower : Type 0
   NextNotLower = (q k).next ≤ queues_after.next
 
@@ -90,7 +90,7 @@ module _ (i : ℕ) (q r : QueuesByKey) (s t : PlainQueueSlots) (k : PlainKey) (w
 
   now_if : SlotsOpenAfter → (j : PlainKey) (n : ℕ) (b : Bool) → keys_equal k j ≡ b → t j ≡ Some n → (n < (r j).next) × (is_open_by i n (r j).queues ≡ true)
   now_if h j n true is at = subst (λ (z : PlainQueues). (n < z.next) × (is_open_by i n z.queues ≡ true)) (sym (at_key_same j is)) (h n (sym (at_key s t k o j ht is) ∙ at))
-  now_if h j n false is at = subst (λ (z : PlainQueues). (n < z.next) × (is_open_by i n z.queues ≡ true)) (sym (at_other_key j is)) (open_step j n (sym (after_key s t k o j ht is) ∙ at))
+  now_if h j n false is at = subst (λ (z : PlainQueues). (n < z.next) × (is_open_by i n z.queues ≡ true)) (sym (at_other_key j is)) (are_open j n (sym (after_key s t k o j ht is) ∙ at))
 
   -- the frame of the other sessions
   pub leaves_at : NextNotLower → OtherQueuesSame → OwnQueueOrNew → SlotsOpenAfter → OtherQueuesUnchanged i q s r t
@@ -362,12 +362,12 @@ stands_of i (Some w) h = (w, refl)
 entries_are : (es fs : List PlainEntry) → ◌≡◌ {A = Option (List PlainEntry)} (Some es) (Some fs) → es ≡ fs
 entries_are es fs h = cc
 
-module _ (i : ℕ) (q0 q1 : QueuesByKey) (l0 l1 : PlainKey → List PlainEntry) (s0 s1 : PlainQueueSlots) (k : PlainKey) (n : ℕ) (w : PlainQueue) (a : Option plain.PlainOpenAttempt) where
+module _ (i : ℕ) (q0 q1 : QueuesByKey) (l0 l1 : PlainKey → List PlainEntry) (s0 s1 : PlainQueueSlots) (k : PlainKey) (n : ℕ) (own_queue : PlainQueue) (a : Option plain.PlainOpenAttempt) where
   -- the session's queue of k, and the queues of the others
   pub record TakeFacts : Type 0 where
     pub all : SlotsOpen i q0 s0
     pub at : s0 k ≡ Some n
-    pub stands : queue_at n (q0 k).queues ≡ Some queues_after
+    pub stands : queue_at n (q0 k).queues ≡ Some own_queue
     pub others : q1 ≡ with_queues q0 k (q1 k)
     pub next : (q1 k).next ≡ (q0 k).next
     pub logs : l1 ≡ l0
@@ -376,7 +376,7 @@ module _ (i : ℕ) (q0 q1 : QueuesByKey) (l0 l1 : PlainKey → List PlainEntry) 
     queue_is_owned : is_open_by i n (q0 k).queues ≡ true
     queue_is_owned = (h.all k n h.at).1
 
-    seen_is : (seen_by a q0 s0).queues k ≡ Some (position_of_queue queues_after)
+    seen_is : (seen_by a q0 s0).queues k ≡ Some (position_of_queue own_queue)
     seen_is = ap (position_in_queues (q0 k)) h.at ∙ ap (option_map position_of_queue) h.stands
 
     next_if : (j : PlainKey) (b : Bool) → keys_equal k j ≡ b → (q1 j).next ≡ (q0 j).next
@@ -395,10 +395,10 @@ module _ (i : ℕ) (q0 q1 : QueuesByKey) (l0 l1 : PlainKey → List PlainEntry) 
     slot_unchanged : s1 ≡ s0 → s1 ≡ with_value_at_key s0 k (Some n)
     slot_unchanged e = e ∙ updated_at_same s0 k (Some n) (sym h.at)
 
-    take_deed : (max : ℕ) (m : OneStep) → effect m i (seen_by a q0 s0) (plain.take k max) ≡ take_effect m (seen_by a q0 s0) k max (position_of_queue queues_after)
+    take_deed : (max : ℕ) (m : OneStep) → effect m i (seen_by a q0 s0) (plain.take k max) ≡ take_effect m (seen_by a q0 s0) k max (position_of_queue own_queue)
     take_deed max m = ap (λ (o : Option QueuePosition). option_map_or (take_effect m (seen_by a q0 s0) k max) o (plain.notice plain.idle (seen_by a q0 s0))) seen_is
 
-    pub take_out_of_memory : (max : ℕ) → is_nonempty (pending_entries (l0 k) max queues_after) ≡ true → s1 ≡ s0 → q1 ≡ q0 → DispatchesAct i (core_at l0 q0) (seen_by a q0 s0) (plain.take k max) out_of_memory (core_at l1 q1) (seen_by a q1 s1)
+    pub take_out_of_memory : (max : ℕ) → is_nonempty (pending_entries (l0 k) max own_queue) ≡ true → s1 ≡ s0 → q1 ≡ q0 → DispatchesAct i (core_at l0 q0) (seen_by a q0 s0) (plain.take k max) out_of_memory (core_at l1 q1) (seen_by a q1 s1)
     take_out_of_memory max some e q = (
       ap (effect_allocates (core_at l0 q0)) (take_deed max (core_at l0 q0)) ∙ some,
       core_unchanged,
@@ -406,15 +406,15 @@ module _ (i : ℕ) (q0 q1 : QueuesByKey) (l0 l1 : PlainKey → List PlainEntry) 
     )
 
     module _ (max : ℕ) (es : List PlainEntry) (takes_is : TakesOrOutOfMemory (l0 k) i n max (q0 k) (Some (Some es)) (q1 k)) (same : s1 ≡ s0) where
-      entries_are_pending : es ≡ pending_entries (l0 k) max queues_after
-      entries_are_pending = entries_are es (pending_entries (l0 k) max queues_after) (takes_is.0 ∙ ap (λ b. cond b (take_result (l0 k) n max (q0 k).queues) None) queue_is_owned ∙ ap (option_map (pending_entries (l0 k) max)) h.stands)
+      entries_are_pending : es ≡ pending_entries (l0 k) max own_queue
+      entries_are_pending = entries_are es (pending_entries (l0 k) max own_queue) (takes_is.0 ∙ ap (λ b. cond b (take_result (l0 k) n max (q0 k).queues) None) queue_is_owned ∙ ap (option_map (pending_entries (l0 k) max)) h.stands)
 
-      queue_is_advanced : queue_at n (q1 k).queues ≡ Some (advance (l0 k) max queues_after)
-      queue_is_advanced = ap (λ (z : PlainQueues). queue_at n z.queues) takes_is.1 ∙ ap (λ b. queue_at n (cond b (queues_after_take (l0 k) n max (q0 k).queues) (q0 k).queues)) queue_is_owned ∙ queue_at_taken (l0 k) n max queues_after (q0 k).queues h.stands
+      queue_is_advanced : queue_at n (q1 k).queues ≡ Some (advance (l0 k) max own_queue)
+      queue_is_advanced = ap (λ (z : PlainQueues). queue_at n z.queues) takes_is.1 ∙ ap (λ b. queue_at n (cond b (queues_after_take (l0 k) n max (q0 k).queues) (q0 k).queues)) queue_is_owned ∙ queue_at_taken (l0 k) n max own_queue (q0 k).queues h.stands
 
       pub taken_turn : DispatchesAct i (core_at l0 q0) (seen_by a q0 s0) (plain.take k max) (reply_answer (machine.taken es)) (core_at l1 q1) (seen_by a q1 s1)
       taken_turn =
-          let put : seen_by a q1 s1 ≡ with_queue (seen_by a q0 s0) k (Some (read_on (l0 k) max (position_of_queue queues_after))) = λ j. record { attempt = a; queues = seen_at q0 q1 s0 s1 k (q1 k) (Some n) (Some (read_on (l0 k) max (position_of_queue queues_after))) h.others (slot_unchanged same) (ap (option_map position_of_queue) queue_is_advanced) j } in
+          let put : seen_by a q1 s1 ≡ with_queue (seen_by a q0 s0) k (Some (read_on (l0 k) max (position_of_queue own_queue))) = λ j. record { attempt = a; queues = seen_at q0 q1 s0 s1 k (q1 k) (Some n) (Some (read_on (l0 k) max (position_of_queue own_queue))) h.others (slot_unchanged same) (ap (option_map position_of_queue) queue_is_advanced) j } in
           subst (λ d. FollowsEffect (core_at l0 q0) d (reply_answer (machine.taken es)) (core_at l1 q1) (seen_by a q1 s1)) (sym (take_deed max (core_at l0 q0))) (ap (λ l. reply_answer (machine.taken l)) entries_are_pending, core_unchanged, put)
 
       pub taken_leaves : OtherQueuesUnchanged i q0 s0 q1 s1

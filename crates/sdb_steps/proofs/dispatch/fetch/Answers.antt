@@ -11,7 +11,7 @@ returns-in-Err-clause-dispatches c =
     let n = one_step_of_shard c.fetch.new.self in
     let k = plain_key c.args.key.now in
     let told = c.in-Err.ensures in
-    λ i x. fetch_refused i m n x k c.in-Err.field-0 told.fetched (same_core c.args.shard.now c.fetch.new.self told.logs told.queues)
+    λ i x. fetch_refused i m n x k c.in-Err.field-0 told.fetched (same_core c.args.shard.now c.fetch.new.self told.logs_unchanged told.queues_unchanged)
 
 pub returns-in-Ok-clause-dispatches : goal.returns-in-Ok-clause-dispatches
 returns-in-Ok-clause-dispatches c =
@@ -19,4 +19,4 @@ returns-in-Ok-clause-dispatches c =
     let n = one_step_of_shard c.fetch.new.self in
     let k = plain_key c.args.key.now in
     let told = c.in-Ok.ensures in
-    λ i x. fetch_read i m n x k (plain_fetched c.in-Ok.fetched) told.fetched (same_core c.args.shard.now c.fetch.new.self told.logs told.queues)
+    λ i x. fetch_read i m n x k (plain_fetched c.in-Ok.fetched) told.fetched (same_core c.args.shard.now c.fetch.new.self told.logs_unchanged told.queues_unchanged)

@@ -14,7 +14,7 @@ returns-in-Err-clause-dispatches c =
     let n = one_step_of_shard c.snapshot_at.new.self in
     let k = plain_key c.args.key.now in
     let told = c.in-Err.ensures in
-    λ i x. subst (λ (z : PlainStepAnswer). DispatchesAct i m x (snapshot k c.args.version) z n x) (sym c.refused_snapshot.ensures) (snapshot_refused i m n x x k c.args.version c.in-Err.code told.snapshot (same_core c.args.shard.now c.snapshot_at.new.self told.logs told.queues) refl)
+    λ i x. subst (λ (z : PlainStepAnswer). DispatchesAct i m x (snapshot k c.args.version) z n x) (sym c.refused_snapshot.ensures) (snapshot_refused i m n x x k c.args.version c.in-Err.code told.snapshot (same_core c.args.shard.now c.snapshot_at.new.self told.logs_unchanged told.queues_unchanged) refl)
 
 pub returns-in-Ok-clause-dispatches : goal.returns-in-Ok-clause-dispatches
 returns-in-Ok-clause-dispatches c =
@@ -22,4 +22,4 @@ returns-in-Ok-clause-dispatches c =
     let n = one_step_of_shard c.snapshot_at.new.self in
     let k = plain_key c.args.key.now in
     let told = c.in-Ok.ensures in
-    λ i x. snapshot_read i m n x x k c.args.version (plain_fetched c.in-Ok.fetched) told.snapshot (same_core c.args.shard.now c.snapshot_at.new.self told.logs told.queues) refl
+    λ i x. snapshot_read i m n x x k c.args.version (plain_fetched c.in-Ok.fetched) told.snapshot (same_core c.args.shard.now c.snapshot_at.new.self told.logs_unchanged told.queues_unchanged) refl

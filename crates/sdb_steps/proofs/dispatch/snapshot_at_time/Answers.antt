@@ -11,7 +11,7 @@ returns-in-Err-clause-dispatches c =
     let n = one_step_of_shard c.snapshot_at_time.new.self in
     let k = plain_key c.args.key.now in
     let told = c.in-Err.ensures in
-    λ i x. at_time_refused i m n x k c.args.moment c.in-Err.field-0 told.snapshot (same_core c.args.shard.now c.snapshot_at_time.new.self told.logs told.queues)
+    λ i x. at_time_refused i m n x k c.args.moment c.in-Err.field-0 told.snapshot (same_core c.args.shard.now c.snapshot_at_time.new.self told.logs_unchanged told.queues_unchanged)
 
 pub returns-in-Ok-clause-dispatches : goal.returns-in-Ok-clause-dispatches
 returns-in-Ok-clause-dispatches c =
@@ -19,4 +19,4 @@ returns-in-Ok-clause-dispatches c =
     let n = one_step_of_shard c.snapshot_at_time.new.self in
     let k = plain_key c.args.key.now in
     let told = c.in-Ok.ensures in
-    λ i x. at_time_read i m n x k c.args.moment (plain_fetched c.in-Ok.fetched) told.snapshot (same_core c.args.shard.now c.snapshot_at_time.new.self told.logs told.queues)
+    λ i x. at_time_read i m n x k c.args.moment (plain_fetched c.in-Ok.fetched) told.snapshot (same_core c.args.shard.now c.snapshot_at_time.new.self told.logs_unchanged told.queues_unchanged)

@@ -19,7 +19,7 @@ pub run-requires-2-clause-ready : goal.run-requires-2-clause-ready
 run-requires-2-clause-ready g c =
     λ x w saw ext same.
     let a = c.in_ok-version in
-    let d = a.ensures.done in
+    let d = a.ensures.ran in
     let k = plain_key c.args.key.now in
     let v = a.field-0.version in
     let s = option_map value_of c.in_ok-snapshot.snapshot in
@@ -32,7 +32,7 @@ run-requires-2-clause-ready g c =
 pub returns-clause-answered : goal.returns-clause-answered
 returns-clause-answered g c =
     let a = c.in_ok-version in
-    let d = a.ensures.done in
+    let d = a.ensures.ran in
     let e = c.run-2.ensures.ran in
     let k = plain_key c.args.key.now in
     let t = c.args.moment in

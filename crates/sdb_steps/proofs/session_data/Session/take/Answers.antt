@@ -21,7 +21,7 @@ returns-in-Ok-Some-clause-dispatches c =
     let w = stands_of c.args.by _ (c.requires k n at).1 in
     let told = c.in-Ok-Some.ensures in
     let takes : TakesOrOutOfMemory (l0 k) c.args.by n c.args.max (q0 k) (Some (Some c.in-Ok-Some.entries.items)) (q1 k) = (ap (option_map (λ v. v.items)) (sym c.in-Ok-Some.field-0-is) ∙ told.takes.0, told.takes.1) in
-    let h : TakeFacts c.args.by q0 q1 l0 l1 s s k n w.0 a = record { all = c.requires; at = at; stands = w.1; others = told.others; next = ap (λ z. z.next) told.takes.1; logs = told.logs } in
+    let h : TakeFacts c.args.by q0 q1 l0 l1 s s k n w.0 a = record { all = c.requires; at = at; stands = w.1; others = told.others_unchanged; next = ap (λ z. z.next) told.takes.1; logs = told.logs_unchanged } in
     taken_turn c.args.by q0 q1 l0 l1 s s k n w.0 a h c.args.max c.in-Ok-Some.entries.items takes refl
 
 pub returns-in-Ok-Some-clause-other_queues_unchanged : goal.returns-in-Ok-Some-clause-other_queues_unchanged
@@ -38,7 +38,7 @@ returns-in-Ok-Some-clause-other_queues_unchanged c =
     let w = stands_of c.args.by _ (c.requires k n at).1 in
     let told = c.in-Ok-Some.ensures in
     let takes : TakesOrOutOfMemory (l0 k) c.args.by n c.args.max (q0 k) (Some (Some c.in-Ok-Some.entries.items)) (q1 k) = (ap (option_map (λ v. v.items)) (sym c.in-Ok-Some.field-0-is) ∙ told.takes.0, told.takes.1) in
-    let h : TakeFacts c.args.by q0 q1 l0 l1 s s k n w.0 a = record { all = c.requires; at = at; stands = w.1; others = told.others; next = ap (λ z. z.next) told.takes.1; logs = told.logs } in
+    let h : TakeFacts c.args.by q0 q1 l0 l1 s s k n w.0 a = record { all = c.requires; at = at; stands = w.1; others = told.others_unchanged; next = ap (λ z. z.next) told.takes.1; logs = told.logs_unchanged } in
     taken_leaves c.args.by q0 q1 l0 l1 s s k n w.0 a h c.args.max c.in-Ok-Some.entries.items takes refl
 
 pub returns-in-Err-clause-dispatches : goal.returns-in-Err-clause-dispatches
@@ -54,11 +54,11 @@ returns-in-Err-clause-dispatches c =
     let at : s k ≡ Some n = sym c.queue_of.ensures ∙ c.in-Some.is in
     let w = stands_of c.args.by _ (c.requires k n at).1 in
     let told = c.in-Err.ensures in
-    let h : TakeFacts c.args.by q0 q1 l0 l1 s s k n w.0 a = record { all = c.requires; at = at; stands = w.1; others = told.others; next = ap (λ z. z.next) told.takes.0; logs = told.logs } in
+    let h : TakeFacts c.args.by q0 q1 l0 l1 s s k n w.0 a = record { all = c.requires; at = at; stands = w.1; others = told.others_unchanged; next = ap (λ z. z.next) told.takes.0; logs = told.logs_unchanged } in
     let some =
     sym (ap (λ b. is_nonempty (unwrap_or (cond b (take_result (l0 k) n c.args.max (q0 k).queues) None) [])) (c.requires k n at).1 ∙ ap (λ o. is_nonempty (unwrap_or (option_map (pending_entries (l0 k) c.args.max) o) [])) w.1)
     ∙ told.takes.1 in
-    take_out_of_memory c.args.by q0 q1 l0 l1 s s k n w.0 a h c.args.max some refl (unchanged_queues q0 q1 k told.others told.takes.0)
+    take_out_of_memory c.args.by q0 q1 l0 l1 s s k n w.0 a h c.args.max some refl (unchanged_queues q0 q1 k told.others_unchanged told.takes.0)
 
 pub returns-in-Err-clause-other_queues_unchanged : goal.returns-in-Err-clause-other_queues_unchanged
 returns-in-Err-clause-other_queues_unchanged c =
@@ -67,4 +67,4 @@ returns-in-Err-clause-other_queues_unchanged c =
     let k = plain_key c.args.key.now in
     let s = queue_slots_of c.args.self.now in
     let told = c.in-Err.ensures in
-    leaves_all c.args.by q0 q1 s s c.requires (unchanged_queues q0 q1 k told.others told.takes.0) refl
+    leaves_all c.args.by q0 q1 s s c.requires (unchanged_queues q0 q1 k told.others_unchanged told.takes.0) refl
