@@ -3,21 +3,26 @@
 One document gets 1,000 operations of 256 components. Then one client sends operations of 256 components with base
 version 1, so each is transformed against all of them. Another client edits the document without a pause, so each commit
 finds a longer log. At the same time a bystander sends edits to sixteen other documents in turn, of which some share the
-document's lock: 10,000 (or EDITS), and more until two of the late operations are acknowledged. It prints the middle and
-the slowest acknowledgement of the bystander, first without the other two.
+document's lock: 10,000 (or EDITS), and more until two of the late operations are acknowledged, but at most for five minutes.
+It prints the middle and the slowest acknowledgement of the bystander, first without the other two.
 
 SERVER is the program of the server. It is started at a port of its own and stopped at the end."""
 import json
 import multiprocessing
+import pathlib
 import socket
-import subprocess
 import sys
 import time
+
+sys.path.insert(0, str(pathlib.Path(__file__).resolve().parent.parent / "tests"))
+
+from support.server import Server  # noqa: E402
 
 TYPE = "http://sharejs.org/types/JSONv0"
 COMPONENTS = 256
 LONG = 1_000
 LATE = 2
+LONGEST = 300  # seconds for two late operations
 DOCUMENTS = 16
 
 
@@ -76,20 +81,6 @@ def long_edit():
     return [{"p": ["t", 0], "si": "x"}] * COMPONENTS
 
 
-def start(server):
-    with socket.socket() as free:
-        free.bind(("127.0.0.1", 0))
-        port = free.getsockname()[1]
-    program = subprocess.Popen([server, "--listen", f"127.0.0.1:{port}"], stdout=subprocess.DEVNULL)
-    for _ in range(100):
-        try:
-            socket.create_connection(("127.0.0.1", port)).close()
-            return program, port
-        except OSError:
-            time.sleep(0.05)
-    raise RuntimeError("the server doesn't listen")
-
-
 def bystand(client, edits, is_enough):
     took = []
     while len(took) < edits or not is_enough():
@@ -115,9 +106,9 @@ def report(name, client, edits, is_enough):
     print(f"{name}: {count} edits, middle {middle * 1e6:.0f} us, slowest {slowest * 1e3:.1f} ms", flush=True)
 
 
-def main(server, edits=10_000):
-    program, port = start(server)
-    try:
+def main(program, edits=10_000):
+    with Server(program) as server:
+        port = server.address[1]
         bystander, author = Client(port, "bystander"), Client(port, "author")
         for number in range(DOCUMENTS):
             bystander.submit(f"b{number}", create={"type": TYPE, "data": {"n": 0}})
@@ -133,14 +124,14 @@ def main(server, edits=10_000):
         ]
         for other in others:
             other.start()
-        time.sleep(1)
-        report("beside", bystander, edits, lambda: late.value >= LATE)
-        print(f"meanwhile {late.value} late operations and {stored.value} others were acknowledged")
-        for other in others:
-            other.kill()
-    finally:
-        program.kill()
-        program.wait()
+        try:
+            time.sleep(1)
+            end = time.monotonic() + LONGEST
+            report("beside", bystander, edits, lambda: late.value >= LATE or time.monotonic() > end)
+            print(f"meanwhile {late.value} late operations and {stored.value} others were acknowledged")
+        finally:
+            for other in others:
+                other.kill()
 
 
 if __name__ == "__main__":

@@ -3,21 +3,20 @@
 One client stores the operations, another one fetches them from version 0 on and reads slowly. Needs the library `websockets`."""
 import asyncio
 import json
-import subprocess
+import pathlib
 import sys
 
 import websockets
 
+sys.path.insert(0, str(pathlib.Path(__file__).resolve().parent.parent / "tests"))
+
+from support.server import Server  # noqa: E402
+
 KEY = {"c": "board", "d": "1"}
 
 
-def memory(process, name):
-    with open(f"/proc/{process.pid}/status") as status:
-        return next(int(line.split()[1]) * 1024 for line in status if line.startswith(name))
-
-
 def connect(address):
-    return websockets.connect(f"ws://{address}", max_size=None, compression=None)
+    return websockets.connect(address, max_size=None, compression=None)
 
 
 async def store(address, count):
@@ -43,20 +42,14 @@ async def listed(address):
         return count
 
 
-async def main(server, count):
-    command = [server, "--listen", "127.0.0.1:0"]
-    process = subprocess.Popen(command, stdout=subprocess.PIPE, text=True)
-    try:
-        address = process.stdout.readline().split()[1]
-        await store(address, count)
-        before = memory(process, "VmRSS")
-        with open(f"/proc/{process.pid}/clear_refs", "w") as references:
-            references.write("5")
-        entries = await listed(address)
-        more = memory(process, "VmHWM") - before
+async def main(program, count):
+    with Server(program) as server:
+        await store(server.url, count)
+        before = server.megabytes()
+        server.restart_maximum()
+        entries = await listed(server.url)
+        more = (server.megabytes("VmHWM") - before) * 1e6
         print(f"{entries} operations listed, {more / entries:.1f} bytes more for each")
-    finally:
-        process.kill()
 
 
 if __name__ == "__main__":

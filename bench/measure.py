@@ -1,4 +1,10 @@
-"""Runs the programs over generated input, in turn, and prints the best of fifteen runs each."""
+"""Runs the programs over generated input, in turn, and prints the best of fifteen runs each.
+
+    bench/measure.py [--json [FILE]]
+
+--json also writes all figures with the spread of their runs: to FILE, or to bench/results/DATE-COMMIT.json. `bench/tables.py`
+makes tables of it.
+"""
 import json
 import os
 import random
@@ -7,10 +13,13 @@ import sys
 import tempfile
 import time
 
+from results import Results
+
 HERE = os.path.dirname(os.path.abspath(__file__))
 SERVER = os.path.join(HERE, "..", "crates", "sdb_server_main", "out", "sdb_server_main")
 BENCH = os.path.join(HERE, "..", "crates", "sdb_bench", "out", "sdb_bench")
 RUNS = 15
+RESULTS = Results()
 
 
 # Returns the processor time of a command over a file, in seconds.
@@ -34,46 +43,63 @@ def compare(title, script, lines, *more):
             "print answers": ([BENCH, "json"], answers.name),
             "server": ([SERVER, "--lines"], made.name),
         }
-        best = {name: float("inf") for name in passes}
+        runs = {name: [] for name in passes}
         for _ in range(RUNS):
             for name, (command, path) in passes.items():
-                best[name] = min(best[name], spent(command, path))
+                runs[name].append(spent(command, path))
+        best = {name: min(times) for name, times in runs.items()}
         sizes = os.path.getsize(made.name), os.path.getsize(answers.name)
     printed = best["print answers"] - best["read answers"]
     plain, server = best["read"] + printed, best["server"]
+    RESULTS.add(f"{title}: server, {lines} lines", "s", server, runs["server"])
+    RESULTS.add(f"{title}: JSON of the lines and answers", "s", plain)
+    RESULTS.add(f"{title}: ratio", "ratio", server / plain)
     print(f"{title}: {lines} lines, {sizes[0] / 1e6:.1f} MB, answers {sizes[1] / 1e6:.1f} MB; processor time")
     print(f"  JSON of the lines read, of the answers printed: {best['read']:.3f} + {printed:.3f} = {plain:.3f} s")
     print(f"  server: {server:.3f} s, {server / lines * 1e6:.2f} microseconds each line; ratio {server / plain:.2f}")
 
 
-# Returns the server's best time over a script's output in seconds, and its maximum memory in bytes.
+# Returns the server's best time over a script's output in seconds, its maximum memory in bytes, and all times.
 def server_over(runs, script, *counts):
     with tempfile.NamedTemporaryFile("w", suffix=".lines") as made:
         subprocess.run([sys.executable, os.path.join(HERE, script), *map(str, counts)], stdout=made, check=True)
         made.flush()
-        best, held = float("inf"), 0
+        times, held = [], 0
         for _ in range(runs):
             with open(made.name, "rb") as source, open(os.devnull, "wb") as sink:
                 start = time.perf_counter()
                 server = subprocess.Popen([SERVER, "--lines"], stdin=source, stdout=sink)
                 _, status, used = os.wait4(server.pid, 0)
                 assert status == 0
-                best, held = min(best, time.perf_counter() - start), max(held, used.ru_maxrss * 1024)
-    return best, held
+                times.append(time.perf_counter() - start)
+                held = max(held, used.ru_maxrss * 1024)
+    return min(times), held, times
+
+
+# Returns the time of one of `count` edits, as the difference of the best times with and without them.
+def each_of(title, script, parts, count):
+    with_edits, without = (server_over(5, script, *parts, it) for it in (count, 0))
+    value = (with_edits[0] - without[0]) / count
+    RESULTS.add(title, "s", value, [(it - without[0]) / count for it in with_edits[2]])
+    return value
 
 
 def long_logs():
     few, many = 10_000, 1_000_000
     short, long = server_over(5, "counts.py", few)[0] / few, server_over(1, "counts.py", many)[0] / many
+    RESULTS.add(f"an increment, on a log that grows to {few} entries", "s", short)
+    RESULTS.add(f"an increment, on a log that grows to {many} entries", "s", long)
     print(f"each increment of one number, on a log that grows to {few} entries: {short * 1e6:.2f} microseconds")
     print(f"  to {many}: {long * 1e6:.2f} microseconds, ratio {long / short:.2f}")
     held = server_over(1, "trace.py", many)[1] - server_over(1, "trace.py", few)[1]
+    RESULTS.add("memory of an insert", "bytes", held / (many - few))
     print(f"memory for each insert of a character by 8 sources: {held / (many - few):.0f} bytes")
 
 
 def pairs():
     edits = 1000
-    small, large = ((server_over(5, "pairs.py", size, edits)[0] - server_over(5, "pairs.py", size, 0)[0]) / edits for size in (100, 10_000))
+    title = "an edit of two components, in a document of {} KB"
+    small, large = (each_of(title.format(size), "pairs.py", [size], edits) for size in (100, 10_000))
     print(f"an edit of two components in a text of 1 KB, in a document of 100 KB: {small * 1e6:.0f} microseconds")
     print(f"  of 10 MB: {large * 1e6:.0f} microseconds, ratio {large / small:.2f}")
 
@@ -81,9 +107,7 @@ def pairs():
 def places():
     edits = 5_000
     for kind, sizes in (("text", (10_000, 1_000_000)), ("list", (500, 50_000)), ("object", (500, 50_000))):
-        small, large = (
-            (server_over(5, "places.py", kind, size, edits)[0] - server_over(5, "places.py", kind, size, 0)[0]) / edits for size in sizes
-        )
+        small, large = (each_of(f"a session's edit of a {kind} of {size}", "places.py", [kind, size], edits) for size in sizes)
         print(f"an edit by a session of a {kind} of {sizes[0]}: {small * 1e6:.1f} microseconds, of {sizes[1]}: {large * 1e6:.1f}")
 
 
@@ -92,8 +116,10 @@ def snapshots():
     alone = server_over(5, "snapshots.py", entries, 0, 0)[0]
     present, near = ((server_over(5, "snapshots.py", entries, reads, back)[0] - alone) / reads for back in (0, 1000))
     far = server_over(5, "snapshots.py", entries, 1, entries)[0] - alone
+    for title, value in (("the current version", present), ("one of the last 1,000 versions", near), ("any version", far)):
+        RESULTS.add(f"a read of {title}, on a log of {entries} entries", "s", value)
     print(f"a document at the present version of a log of {entries} entries: {present * 1e6:.1f} microseconds")
-    print(f"  at a random one of the last 1,000: {near * 1e6:.1f} microseconds, at a random one of all: {far * 1e3:.1f} milliseconds")
+    print(f"  at a random one of the last 1,000: {near * 1e6:.1f} microseconds, of all: {far * 1e3:.1f} milliseconds")
 
 
 def subscriptions():
@@ -128,7 +154,8 @@ def calls():
         measured(f"an object into a list of {length}", "apply", into)
     for length in (1_000, 10_000, 100_000):
         # at random keys among twice as many as the object has at first
-        into = edited({f"k{key}": None for key in range(length)}, inserts, lambda: {"p": [f"k{at.randrange(2 * length)}"], "oi": None})
+        keys = {f"k{key}": None for key in range(length)}
+        into = edited(keys, inserts, lambda: {"p": [f"k{at.randrange(2 * length)}"], "oi": None})
         measured(f"a key into an object of {length}", "apply", into)
     length = 10_000_000
     measured(f"a text of {length}", "fetch", edited("a" * length, 10_000, lambda: {"p": [at.randrange(length)], "si": "b"}))
@@ -145,7 +172,7 @@ def calls():
         measured(title, "cross", [None, operation, operation])
 
 
-def main():
+def main(words):
     compare("1,000 documents", "lines.py", 100_000)
     compare("one text, 8 sources up to 8 versions behind", "trace.py", 100_000)
     compare("one number", "counts.py", 100_000)
@@ -157,7 +184,11 @@ def main():
     snapshots()
     calls()
     subprocess.run([BENCH, "lock"], check=True)
+    if words[:1] == ["--json"]:
+        print(f"written: {RESULTS.write(*words[1:2])}")
 
 
 if __name__ == "__main__":
-    main()
+    if sys.argv[1:] and sys.argv[1] != "--json":
+        sys.exit(__doc__)
+    main(sys.argv[1:])

@@ -4,8 +4,8 @@
  *     node bench/soak.js SERVER [OPERATIONS [CLIENTS [DOCUMENTS [SEED]]]]
  *
  * SERVER is the program, which is started, or the address of a running one (ws://..). CLIENTS (64) store OPERATIONS
- * (1,000,000); each edits one of DOCUMENTS (8) with examples/client.js, and makes its next edit after the last one is
- * acknowledged. About one operation in a thousand is sent on a socket that is torn down at once; its client reconnects
+ * (1,000,000); each edits one of DOCUMENTS (8) with the client of client/src, and makes its next edit after the last one
+ * is acknowledged. About one operation in a thousand is sent on a socket that is torn down at once; its client reconnects
  * with the same source and sends again what wasn't acknowledged.
  *
  * At the end each client's document must be that of a fresh fetch, at the same version, and each document the replay of
@@ -14,15 +14,12 @@
  *
  * Needs node-ws.
  */
-'use strict';
-
-const { spawn } = require('child_process');
-const { readFileSync } = require('fs');
-const { isDeepStrictEqual } = require('util');
-module.paths.push('/usr/share/nodejs'); // where Debian installs node-ws
-const WebSocket = require('ws');
-const { Client, apply } = require('../examples/client.js');
-const { choices } = require('../tests/clients/random.js');
+import { spawn } from 'node:child_process';
+import { readFileSync } from 'node:fs';
+import { isDeepStrictEqual } from 'node:util';
+import { Client, apply } from '../client/src/index.js';
+import { choices } from '../tests/clients/random.js';
+import { WebSocket } from '../tests/clients/websocket.js';
 
 const [server, operations = '1000000', clients = '64', documents = '8', seed = '1'] = process.argv.slice(2);
 const COLLECTION = 'soak';
@@ -32,6 +29,7 @@ const LIST = 24; // maximal length of a list
 const KILL = 1000; // one operation in this number loses its socket
 const PATIENCE = 60000; // milliseconds without a stored operation
 const PIECES = ['a', 'bc', 'def ', 'é', '漢', '😀'];
+const FULL = Symbol('the server has no free place');
 
 // Edits -----------------------------------------------------------------------------------------------------
 
@@ -164,13 +162,24 @@ async function play(participants) {
 
 // The end ---------------------------------------------------------------------------------------------------
 
-// Sends a request over a new connection. Returns the messages up to the end of the answer.
-function ask(address, request) {
+// Sends a request over a new connection. Returns the messages up to the end of the answer. Tries again while the server
+// still serves the clients that have just disconnected.
+async function ask(address, request) {
+  const latest = Date.now() + PATIENCE;
+  for (;;) {
+    const answer = await askOnce(address, request);
+    if (answer !== FULL) return answer;
+    if (Date.now() > latest) throw new Error('the server has no free place');
+    await pause(50);
+  }
+}
+
+function askOnce(address, request) {
   return new Promise((resolve, reject) => {
     const messages = [];
     const socket = new WebSocket(address);
     socket.onerror = reject;
-    socket.onclose = () => reject(new Error('the connection was closed before the answer'));
+    socket.onclose = ({ code }) => (code === 1013 ? resolve(FULL) : reject(new Error(`closed with ${code} before the answer`)));
     socket.onopen = () => socket.send(JSON.stringify(request));
     socket.onmessage = ({ data }) => {
       const message = JSON.parse(data);
@@ -258,7 +267,6 @@ async function soak(address) {
   const seconds = elapsed();
   clearInterval(progress);
   for (const { client } of participants) client.disconnect();
-  await pause(500); // the server serves new connections once it has noticed the end of these
   for (const id of acknowledged.keys()) {
     const editors = participants.filter(({ document }) => document.id === String(id));
     state.faults.push(...(await faultsOfDocument(address, String(id), editors)));
@@ -282,4 +290,4 @@ async function main() {
   process.exit(state.faults.length === 0 ? 0 : 1);
 }
 
-main();
+await main();

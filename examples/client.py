@@ -17,24 +17,21 @@ import sys
 
 import websockets
 
-MAX = 9007199254740991
-LEFT, RIGHT = "left", "right"
+MAX, LEFT, RIGHT = 9007199254740991, "left", "right"
 MOST_COMPONENTS, LONGEST_MESSAGE = 256, 1_048_576
 FIRST_PAUSE, LONGEST_PAUSE = 1, 30  # seconds before an attempt to connect
 ABSENT = object()  # in place of a document that doesn't exist
 CREATED, DELETED, MISSING = "ERR_DOC_ALREADY_CREATED", "ERR_DOC_WAS_DELETED", "ERR_DOC_DOES_NOT_EXIST"
 NOT_APPLIED, TOO_NEW, NO_MEMORY = "ERR_OT_OP_NOT_APPLIED", "ERR_OP_VERSION_NEWER_THAN_CURRENT_SNAPSHOT", "ERR_OUT_OF_MEMORY"
-NOT_READY, RESTARTED, TOO_LONG = "the document isn't loaded", "the server was restarted", "the message is too long"
+RESTARTED, TOO_LONG = "the server was restarted", "the message is too long"
 
 
 class Refused(Exception):
     """A content that can't be applied or transformed; its argument is a code."""
 
 
-# Components: `na`, `si`, `sd`, `li`, `ld`, `ldli` (a replaced item), `oi`, `od`, `odoi` (a replaced value) -------------
-
-
 def shape(c):
+    """Returns na, si, sd, li, ld, ldli (an item is replaced), oi, od or odoi (a value is replaced)."""
     return "".join(it for it in ("na", "si", "sd", "ld", "li", "od", "oi") if it in c)
 
 
@@ -101,11 +98,8 @@ def completed(document, operation):
     return done, document
 
 
-# Transform (docs/TRANSFORM.md) ----------------------------------------------------------------------------------------
-
-
 def transform(c, o, side):
-    """Returns the components that replace c after the concurrent component o."""
+    """Returns the components that replace c after the concurrent component o (docs/TRANSFORM.md)."""
     mine, theirs, kinds = container(c), container(o), (shape(c)[0], shape(o)[0])
     if mine == theirs:
         rules = {("s", "s"): texts, ("l", "l"): lists, ("o", "o"): objects}.get(kinds, lambda *_: [c])
@@ -227,10 +221,6 @@ class Document:
         self.early, self.ack, self.last = {}, None, None  # `last` has the source and number of the operation before `version`
         self.is_ready = self.is_checked = False  # the start is complete; the connection's history is the known one
 
-    @property
-    def pending(self):
-        return ([self.now] if self.now else []) + self.queue
-
     def submit(self, operation):
         if self.shown is ABSENT:
             raise Refused(MISSING)
@@ -246,10 +236,10 @@ class Document:
 
     def add(self, content, shown):
         if not self.is_ready:
-            raise Refused(NOT_READY)
+            raise Refused("the document isn't loaded")
         self.shown = shown
-        joins = "op" in content and self.queue and "op" in self.queue[-1]
-        self.queue.append({"op": self.queue.pop()["op"] + content["op"]} if joins else content)
+        joined = self.queue.pop()["op"] if "op" in content and self.queue and "op" in self.queue[-1] else []
+        self.queue.append({"op": joined + content["op"]} if joined else content)
         self.send_next()
         self.on_change(self)
 
@@ -268,12 +258,14 @@ class Document:
         self.drop_all(TOO_LONG) if too_long else self.client.send(self.sent)
 
     def drop_all(self, code):
-        dropped, self.sent, self.now, self.queue, self.shown = self.pending, None, None, [], self.stored
+        dropped = [it for it in (self.now, *self.queue) if it]
+        self.sent, self.now, self.queue, self.shown = None, None, [], self.stored
         self.on_dropped(self, dropped, code)
 
     def connected(self):
-        self.is_checked, self.version = False, self.version if self.is_ready else None
+        self.version = self.version if self.is_ready else None
         start = {} if self.version is None else {"v": max(0, self.version - 1)}
+        self.is_checked, self.is_last_seen = False, not self.version
         self.client.send({"a": "s", **self.place, **start})
 
     def restarted(self):
@@ -287,36 +279,37 @@ class Document:
             self.restarted()
         elif code == NO_MEMORY:
             self.client.reconnect()  # after a pause, and sends again
+        elif code and message["a"] == "op":
+            if self.sent and message["seq"] == self.sent["seq"]:
+                if self.now:
+                    self.drop_all(code)
+                self.sent = None
+                self.send_next()
         elif code:
-            self.drop_all(code) if self.now else self.on_dropped(self, [], code)
-            self.sent = self.sent if message["a"] != "op" else None
-            self.send_next()
+            self.on_dropped(self, [], code)
         elif message["a"] == "op":
             self.receive_operation(message, (message["src"], message["seq"]))
         elif "data" in message:  # a start; a list shows who made the last operation
-            self.version = message["data"]["v"]
-            self.stored = self.shown = message["data"].get("data") if "data" in message["data"] else ABSENT
+            self.version, self.is_last_seen = message["data"]["v"], message["data"]["v"] == 0
+            self.stored = self.shown = message["data"].get("data", ABSENT)
             self.client.send({"a": "f", **self.place, "v": max(0, self.version - 1)})
-        elif not self.is_checked and (message["a"] == "f" or self.is_ready):  # the end of the first list
+        elif not self.is_last_seen:  # the end of a list without the last operation
+            self.restarted()
+        elif not self.is_checked:  # the end of the first list
             self.is_ready = self.is_checked = True
-            if self.sent:
-                self.client.send(self.sent)
-            self.send_next()
+            self.client.send(self.sent) if self.sent else self.send_next()
         self.on_change(self)
 
     def receive_operation(self, message, name):
         version, has_content = message["v"], any(it in message for it in ("op", "create", "del"))
-        if self.version is not None and has_content and version == self.version - 1 and not self.is_checked:
-            if self.last not in (None, name):
-                return self.restarted()
-            self.last = name
-        if self.version is None or version < self.version:
-            return
-        if self.now and name == (self.client.source, self.sent["seq"]):
+        if has_content and version + 1 == self.version and not self.is_last_seen:
+            self.is_last_seen, self.last = self.last in (None, name), name
+        is_new = self.version is not None and version >= self.version
+        if is_new and self.now and name == (self.client.source, self.sent["seq"]):
             self.ack = version
-        elif has_content:
+        elif is_new and has_content:
             self.early[version] = message
-        while self.ack == self.version or self.version in self.early:
+        while self.is_last_seen and (self.ack == self.version or self.version in self.early):
             if self.ack == self.version:
                 self.last, self.stored = (self.client.source, self.sent["seq"]), apply_content(self.stored, self.now)
                 self.sent = self.now = self.ack = None
@@ -330,7 +323,7 @@ class Document:
     def process(self, received):
         """Applies a received content, and transforms the pending contents against it."""
         self.stored = self.shown = apply_content(self.stored, received)
-        pending, kept = self.pending, []
+        pending, kept = [it for it in (self.now, *self.queue) if it], []
         try:
             for content in pending:
                 if received:
@@ -349,7 +342,7 @@ class Client:
 
     def __init__(self, url, source=None, first_pause=FIRST_PAUSE):
         self.url, self.source, self.first_pause = url, source or secrets.token_hex(16), first_pause
-        self.documents, self.socket, self.outgoing = {}, None, None
+        self.documents, self.socket, self.outgoing, self.is_open = {}, None, None, True
 
     def document(self, collection, name, on_change=lambda it: None, on_dropped=lambda it, contents, code: None):
         found = self.documents[collection, name] = Document(self, {"c": collection, "d": name}, on_change, on_dropped)
@@ -362,18 +355,23 @@ class Client:
             self.outgoing.put_nowait(json.dumps(message))
 
     def reconnect(self):
-        self.socket.transport.abort()
+        if self.socket and self.socket.transport:
+            self.socket.transport.abort()
+
+    def close(self):
+        self.is_open = False
+        self.reconnect()
 
     async def run(self):
         pause = self.first_pause
-        while True:
+        while self.is_open:
             try:
                 async with websockets.connect(self.url, max_size=None) as self.socket:
                     await self.serve()
             except (OSError, websockets.WebSocketException, asyncio.TimeoutError):
                 pass
             pause, self.outgoing = self.first_pause if self.outgoing else min(2 * pause, LONGEST_PAUSE), None
-            await asyncio.sleep(pause * random.uniform(0.5, 1))
+            await asyncio.sleep(pause * random.uniform(0.5, 1) if self.is_open else 0)
 
     async def serve(self):
         if json.loads(await self.socket.recv())["protocol"] != 1:
@@ -396,11 +394,7 @@ class Client:
             await self.socket.send(await self.outgoing.get())
 
 
-async def main(url, collection, name):
-    client = Client(url)
-    client.document(collection, name, lambda it: print(it.version, "-" if it.shown is ABSENT else json.dumps(it.shown), flush=True))
-    await client.run()
-
-
 if __name__ == "__main__":
-    sys.exit(asyncio.run(main(*sys.argv[1:])) if len(sys.argv) == 4 else __doc__)
+    program = Client(sys.argv[1])
+    program.document(*sys.argv[2:4], lambda it: print(it.version, "-" if it.shown is ABSENT else json.dumps(it.shown), flush=True))
+    asyncio.run(program.run())

@@ -3,34 +3,57 @@
  * its own. An edit in a view becomes an operation on its document. Operations of others are received, and the view is
  * drawn from the document again.
  *
- *     { "text": TEXT, "columns": [{ "name": TEXT, "cards": [{ "id", "title", "done", "votes" }] }] }
+ *     { "text": TEXT, "columns": [NAME], "cards": { ID: { "column": INDEX, "rank": TEXT, "title", "done", "votes" } } }
+ *
+ * Cards are in an object by id. A move replaces a card's column and rank, so an edit of its title is kept meanwhile.
  */
 'use strict';
 
 const COLLECTION = 'examples';
-const CLOCKS_APART = 86400000; // milliseconds by which the server's clock may be ahead
-const NOTICE_STAYS = 10000; // milliseconds for the notice that the server was restarted
+const NOTICE_STAYS = 10000; // milliseconds for a notice of lost edits
+const DIGITS = '0123456789abcdefghijklmnopqrstuvwxyz';
 
 const START = {
   text: 'Two views, one document.\n\nType here, on both sides at once. Each view is a client with its own connection.\n',
-  columns: [
-    { name: 'To do', cards: [card('Add a third client', 2), card('Write the minutes', 0)] },
-    { name: 'Doing', cards: [card('Try emoji 🎉', 5)] },
-    { name: 'Done', cards: [{ ...card('Start the server', 1), done: true }] },
-  ],
+  columns: ['To do', 'Doing', 'Done'],
+  cards: {
+    'first-1': { ...card(0, 'i', 'Add a third client'), votes: 2 },
+    'first-2': card(0, 'r', 'Write the minutes'),
+    'first-3': { ...card(1, 'i', 'Try emoji 🎉'), votes: 5 },
+    'first-4': { ...card(2, 'i', 'Start the server'), done: true, votes: 1 },
+  },
 };
 
 const VIEWS = [
-  { name: 'Ada', accent: '#4c6ef5' },
-  { name: 'Ben', accent: '#e8590c' },
+  { name: 'Ada', accent: 'var(--ada)' },
+  { name: 'Ben', accent: 'var(--ben)' },
 ];
 
-function shortRandom() {
-  return Math.random().toString(36).slice(2, 6).padEnd(4, '0');
+function card(column, rank, title) {
+  return { column, rank, title, done: false, votes: 0 };
 }
 
-function card(title, votes) {
-  return { id: shortRandom() + shortRandom(), title, done: false, votes };
+function randomId() {
+  return [...crypto.getRandomValues(new Uint8Array(10))].map((byte) => DIGITS[byte % DIGITS.length]).join('');
+}
+
+/** Returns a rank between two ranks, as texts are compared. An empty `low` or a null `high` is an open end. */
+function rankBetween(low, high) {
+  let rank = '';
+  for (let at = 0; ; at += 1) {
+    const first = at < low.length ? DIGITS.indexOf(low[at]) : 0;
+    const last = high !== null && at < high.length ? DIGITS.indexOf(high[at]) : DIGITS.length;
+    if (last - first > 1) return rank + DIGITS[(first + last) >> 1];
+    rank += DIGITS[first];
+    if (first < last) high = null;
+  }
+}
+
+/** Returns the ids of a column's cards by rank. Equal ranks, of concurrent inserts, are ordered by id. */
+function idsOf(data, column) {
+  const key = (id) => `${data.cards[id].rank} ${id}`;
+  const ids = Object.keys(data.cards).filter((id) => data.cards[id].column === column);
+  return ids.sort((one, other) => (key(one) < key(other) ? -1 : 1));
 }
 
 function fromTemplate(name) {
@@ -41,79 +64,82 @@ function valueAt(data, path) {
   return path.reduce((value, step) => value[step], data);
 }
 
-/** A text field that shows and edits one text of the shared document; `path` returns its present path. */
+/** A text field that shows and edits one text of the shared document, at a path. */
 class TextField {
-  constructor(element, shared, path) {
+  constructor(element, shared, path, refuse) {
     this.element = element;
     this.shared = shared;
     this.path = path;
+    this.refuse = refuse;
     element.addEventListener('input', () => this.send());
   }
 
-  send() {
-    const { element, shared } = this;
-    const path = this.path();
-    shared.submit(Navirotsohy.textChange(path, valueAt(shared.data, path), element.value, element.selectionStart));
+  // If the edit is refused, the field shows the document's text again.
+  async send() {
+    const { element, shared, path } = this;
+    const before = valueAt(shared.data, path);
+    const operation = Navirotsohy.textChange(path, before, element.value, element.selectionStart);
+    try {
+      await shared.submit(operation);
+    } catch (error) {
+      this.refuse(error);
+      const data = shared.data !== undefined && path.reduce((value, step) => value && value[step], shared.data);
+      if (typeof data === 'string') this.show(data, null);
+    }
   }
 
   /** Shows the text; the caret stays between its two letters. */
-  show(text, operation, pathBefore) {
-    const { element } = this;
+  show(text, operation) {
+    const { element, path } = this;
     if (element.value === text) return;
     const { selectionStart, selectionEnd, selectionDirection, scrollTop } = element;
-    const moved = (offset) => (operation ? Navirotsohy.transformOffset(offset, operation, pathBefore) : offset);
+    const moved = (offset) => (operation ? Navirotsohy.transformOffset(offset, operation, path) : offset);
     element.value = text;
     element.setSelectionRange(moved(selectionStart), moved(selectionEnd), selectionDirection);
     element.scrollTop = scrollTop;
   }
 }
 
-/** One card on the screen, with the position of its card in the document. */
+/** One card on the screen. */
 class CardElement {
-  constructor(board) {
+  constructor(board, id) {
     this.board = board;
-    this.place = null;
+    this.id = id;
     this.element = fromTemplate('card');
     this.done = this.element.querySelector('.done');
     this.vote = this.element.querySelector('.vote');
-    this.title = new TextField(this.element.querySelector('.title'), board.shared, () => [...this.path(), 'title']);
+    this.title = new TextField(this.element.querySelector('.title'), board.shared, ['cards', id, 'title'], board.refuse);
     this.listen();
   }
 
   listen() {
-    const { board, element } = this;
-    this.done.addEventListener('change', () => board.tick(this.path(), this.done.checked));
-    this.vote.addEventListener('click', () => board.shared.submit([{ p: [...this.path(), 'votes'], na: 1 }]));
-    element.querySelector('.back').addEventListener('click', () => board.moveToColumn(this.place, -1));
-    element.querySelector('.on').addEventListener('click', () => board.moveToColumn(this.place, 1));
-    element.querySelector('.remove').addEventListener('click', () => board.remove(this.place));
+    const { board, element, id } = this;
+    this.done.addEventListener('change', () => board.replace(id, { done: this.done.checked }));
+    this.vote.addEventListener('click', () => board.submit([{ p: ['cards', id, 'votes'], na: 1 }]));
+    element.querySelector('.back').addEventListener('click', () => board.moveToColumn(id, -1));
+    element.querySelector('.on').addEventListener('click', () => board.moveToColumn(id, 1));
+    element.querySelector('.remove').addEventListener('click', () => board.remove(id));
     element.addEventListener('keydown', (event) => this.press(event));
-    element.addEventListener('dragstart', () => (board.dragged = this));
+    element.addEventListener('dragstart', () => (board.dragged = id));
     element.addEventListener('dragend', () => (board.dragged = null));
-  }
-
-  path(place = this.place) {
-    return ['columns', place.column, 'cards', place.index];
   }
 
   // The keyboard can do what dragging does.
   press(event) {
     const moves = { ArrowLeft: [-1, 0], ArrowRight: [1, 0], ArrowUp: [0, -1], ArrowDown: [0, 1] };
-    if (event.altKey && moves[event.key]) this.board.moveBy(this.place, ...moves[event.key]);
-    else if (event.altKey && event.key === 'Delete') this.board.remove(this.place);
-    else if (event.key === 'Enter' && event.target === this.title.element) this.board.insertBelow(this.place);
+    if (event.altKey && moves[event.key]) this.board.moveBy(this.id, ...moves[event.key]);
+    else if (event.altKey && event.key === 'Delete') this.board.remove(this.id);
+    else if (event.key === 'Enter' && event.target === this.title.element) this.board.insertBelow(this.id);
     else return;
     event.preventDefault();
   }
 
   focus() {
-    this.element.querySelector('.title').focus();
+    this.title.element.focus();
   }
 
-  show(data, place, operation) {
-    const pathBefore = [...this.path(this.place || place), 'title'];
-    this.place = place;
-    this.title.show(data.title, operation, pathBefore);
+  show(data, operation) {
+    this.title.show(data.title, operation);
     this.done.checked = data.done;
     this.vote.textContent = `▲ ${data.votes}`;
     this.element.classList.toggle('ticked', data.done);
@@ -122,109 +148,117 @@ class CardElement {
 
 /** The columns of cards. */
 class Board {
-  constructor(element, shared) {
+  constructor(element, shared, refuse) {
     this.element = element;
     this.shared = shared;
+    this.refuse = refuse;
     this.lists = [];
     this.headings = [];
-    this.cards = new Map(); // by key
+    this.cards = new Map(); // by id
     this.dragged = null;
   }
 
   // Edits ----------------------------------------------------------------------------------------------------
 
-  add(column) {
-    this.insert(column, this.shared.data.columns[column].cards.length);
+  submit(operation) {
+    this.shared.submit(operation).catch(this.refuse);
   }
 
-  insertBelow({ column, index }) {
-    this.insert(column, index + 1);
+  // Replaces members of a card, each by one component.
+  replace(id, members) {
+    const before = this.shared.data.cards[id];
+    this.submit(Object.entries(members).map(([key, oi]) => ({ p: ['cards', id, key], od: before[key], oi })));
+  }
+
+  // Returns the rank of a card that is inserted at an index of a column. A card that is moved doesn't count.
+  rankAt(column, index, moved = null) {
+    const { data } = this.shared;
+    const ids = idsOf(data, column).filter((id) => id !== moved);
+    const low = index > 0 ? data.cards[ids[index - 1]].rank : '';
+    const next = ids.slice(index).find((id) => data.cards[id].rank > low);
+    return rankBetween(low, next === undefined ? null : data.cards[next].rank);
+  }
+
+  add(column) {
+    this.insert(column, idsOf(this.shared.data, column).length);
+  }
+
+  insertBelow(id) {
+    const { column } = this.shared.data.cards[id];
+    this.insert(column, idsOf(this.shared.data, column).indexOf(id) + 1);
   }
 
   insert(column, index) {
-    this.shared.submit([{ p: ['columns', column, 'cards', index], li: card('', 0) }]);
-    this.lists[column].children[index].querySelector('.title').focus();
+    const id = randomId();
+    this.submit([{ p: ['cards', id], oi: card(column, this.rankAt(column, index), '') }]);
+    this.cards.get(id).focus();
   }
 
   // The keyboard's focus moves to the card that takes the position, or to the column's button.
-  remove({ column, index }) {
-    const path = ['columns', column, 'cards', index];
-    const inside = this.lists[column].children[index].contains(document.activeElement);
-    this.shared.submit([{ p: path, ld: valueAt(this.shared.data, path) }]);
-    const cards = this.lists[column].children;
-    const next = cards[Math.min(index, cards.length - 1)];
-    if (inside) (next ? next.querySelector('.title') : this.lists[column].parentElement.querySelector('.add')).focus();
+  remove(id) {
+    const { column } = this.shared.data.cards[id];
+    const index = idsOf(this.shared.data, column).indexOf(id);
+    const inside = this.cards.get(id).element.contains(document.activeElement);
+    this.submit([{ p: ['cards', id], od: this.shared.data.cards[id] }]);
+    const left = idsOf(this.shared.data, column);
+    const next = left[Math.min(index, left.length - 1)];
+    if (!inside) return;
+    if (next) this.cards.get(next).focus();
+    else this.lists[column].parentElement.querySelector('.add').focus();
   }
 
-  tick(path, done) {
-    this.shared.submit([{ p: [...path, 'done'], od: valueAt(this.shared.data, path).done, oi: done }]);
+  moveBy(id, columns, rows) {
+    const { column } = this.shared.data.cards[id];
+    const ids = idsOf(this.shared.data, column);
+    const index = ids.indexOf(id) + rows;
+    if (columns !== 0) this.moveToColumn(id, columns);
+    else if (index >= 0 && index < ids.length) this.move(id, column, index);
   }
 
-  moveBy(place, columns, rows) {
-    const { length } = this.shared.data.columns[place.column].cards;
-    const index = place.index + rows;
-    if (columns !== 0) this.moveToColumn(place, columns);
-    else if (index >= 0 && index < length) this.move(place, { column: place.column, index: rows > 0 ? index + 1 : index });
+  moveToColumn(id, by) {
+    const column = this.shared.data.cards[id].column + by;
+    if (column in this.shared.data.columns) this.move(id, column, idsOf(this.shared.data, column).length);
   }
 
-  moveToColumn(place, by) {
-    const column = this.shared.data.columns[place.column + by];
-    if (column) this.move(place, { column: place.column + by, index: column.cards.length });
-  }
-
-  // The target is a position of the document in which the card still has its old position.
-  move(from, to) {
-    const moved = valueAt(this.shared.data, ['columns', from.column, 'cards', from.index]);
-    const index = from.column === to.column && from.index < to.index ? to.index - 1 : to.index;
-    this.shared.submit([
-      { p: ['columns', from.column, 'cards', from.index], ld: moved },
-      { p: ['columns', to.column, 'cards', index], li: moved },
-    ]);
+  // The index is one of the column without the card.
+  move(id, column, index) {
+    this.replace(id, { column, rank: this.rankAt(column, index, id) });
   }
 
   drop(event, column) {
     event.preventDefault();
-    if (!this.dragged) return;
-    const cards = [...this.lists[column].children].map((one) => one.getBoundingClientRect());
-    const below = cards.findIndex(({ top, height }) => event.clientY < top + height / 2);
-    this.move(this.dragged.place, { column, index: below < 0 ? cards.length : below });
+    if (this.dragged === null || !this.cards.has(this.dragged)) return;
+    const others = idsOf(this.shared.data, column).filter((id) => id !== this.dragged);
+    const below = others.findIndex((id) => {
+      const { top, height } = this.cards.get(id).element.getBoundingClientRect();
+      return event.clientY < top + height / 2;
+    });
+    this.move(this.dragged, column, below < 0 ? others.length : below);
   }
 
   // Drawing ------------------------------------------------------------------------------------------------
 
-  show(columns, operation) {
-    while (this.lists.length < columns.length) this.addColumn();
+  show(data, operation) {
+    while (this.lists.length < data.columns.length) this.addColumn();
     const focused = document.activeElement;
-    const wanted = this.wantedCards(columns);
-    for (const [key, one] of this.cards) if (!wanted.has(key)) this.forget(key, one);
-    for (const [key, { data, place }] of wanted) this.showCard(key, data, place, operation);
-    columns.forEach(({ name }, column) => (this.headings[column].textContent = name));
+    for (const [id, one] of this.cards) if (!Object.hasOwn(data.cards, id)) this.forget(id, one);
+    data.columns.forEach((name, column) => {
+      this.headings[column].textContent = name;
+      const list = this.lists[column];
+      idsOf(data, column).forEach((id, index) => this.showCard(id, data.cards[id], list, index, operation));
+    });
     if (focused !== document.activeElement) focused.focus({ preventScroll: true });
   }
 
-  // Returns the cards by id. If two clients moved one card concurrently it occurs twice, with a key for each position.
-  wantedCards(columns) {
-    const wanted = new Map();
-    columns.forEach(({ cards }, column) =>
-      cards.forEach((data, index) => {
-        let key = data.id;
-        while (wanted.has(key)) key += '+';
-        wanted.set(key, { data, place: { column, index } });
-      }),
-    );
-    return wanted;
+  showCard(id, data, list, index, operation) {
+    if (!this.cards.has(id)) this.cards.set(id, new CardElement(this, id));
+    const one = this.cards.get(id);
+    one.show(data, operation);
+    if (list.children[index] !== one.element) list.insertBefore(one.element, list.children[index] || null);
   }
 
-  showCard(key, data, place, operation) {
-    if (!this.cards.has(key)) this.cards.set(key, new CardElement(this));
-    const one = this.cards.get(key);
-    const list = this.lists[place.column];
-    one.show(data, place, operation);
-    if (list.children[place.index] !== one.element) list.insertBefore(one.element, list.children[place.index] || null);
-  }
-
-  forget(key, one) {
-    this.cards.delete(key);
+  forget(id, one) {
+    this.cards.delete(id);
     one.element.remove();
   }
 
@@ -246,13 +280,16 @@ class View {
     this.element = fromTemplate('view');
     this.element.style.setProperty('--accent', accent);
     this.find('h2').textContent = name;
-    this.client = new Navirotsohy.Client(address, { source: `${name.toLowerCase()}-${shortRandom()}` });
+    this.client = new Navirotsohy.Client(address, { source: `${name.toLowerCase()}-${randomId()}` });
     this.shared = this.client.document(COLLECTION, id);
+    this.isWanted = true; // the connection
+    this.closing = ''; // why the last one ended
     this.noticeStays = 0; // the time until which it is shown
-    this.text = new TextField(this.find('textarea'), this.shared, () => ['text']);
-    this.board = new Board(this.find('.board'), this.shared);
+    const refuse = (error) => this.showLongNotice(`not stored: ${error.message}`);
+    this.text = new TextField(this.find('textarea'), this.shared, ['text'], refuse);
+    this.board = new Board(this.find('.board'), this.shared, refuse);
     this.listen();
-    this.showState(this.client.state);
+    this.showState();
     this.shared.subscribe().catch((error) => this.showNotice(error.message));
   }
 
@@ -262,50 +299,51 @@ class View {
 
   listen() {
     this.find('.connection').addEventListener('click', () => this.toggle());
-    this.client.on('state', (state) => this.showState(state));
+    this.client.on('close', ({ reason }) => (this.closing = reason));
+    this.client.on('state', () => this.showState());
     this.client.on('error', (error) => this.showNotice(error.message));
     this.shared.on('change', (change) => this.showDocument(change));
     this.shared.on('load', () => this.create());
-    this.shared.on('restarted', (told) => this.remember(told));
+    this.shared.on('restarted', () => this.showLongNotice('the server was restarted and has lost its documents'));
+    this.shared.on('waiting', ({ waiting }) => this.showWaiting(waiting));
     this.shared.on('version', ({ version, source }) => this.showVersion(version + 1, source));
     this.shared.on('stored', () => Date.now() > this.noticeStays && this.showNotice(''));
-    this.shared.on('refused', ({ error }) => this.showNotice(`not stored: ${error.message}`));
   }
 
-  // If no document exists: creates that of the lost server, or a first one.
   create() {
-    const data = this.kept === undefined ? START : this.kept;
-    this.kept = undefined;
-    this.shared.createIfAbsent(data).catch((error) => this.showNotice(`not created: ${error.message}`));
+    this.shared.createIfAbsent(START).catch((error) => this.showNotice(`not created: ${error.message}`));
   }
 
-  remember({ data }) {
-    this.kept = data;
-    this.showNotice('the server was started afresh; what was not stored is lost');
+  // Shows a notice that later edits don't remove at once.
+  showLongNotice(text) {
+    this.showNotice(text);
     this.noticeStays = Date.now() + NOTICE_STAYS;
   }
 
   toggle() {
-    if (this.client.state === 'connecting' || this.client.state === 'connected') this.client.disconnect();
-    else this.client.connect();
+    this.isWanted = !this.isWanted || this.client.state === 'failed';
+    if (this.isWanted) this.client.connect();
+    else this.client.disconnect();
+    this.showState();
   }
 
-  showState(state) {
-    this.element.dataset.state = state;
-    this.find('.state').textContent = state;
-    const isOpen = state === 'connecting' || state === 'connected';
-    this.find('.connection').textContent = isOpen ? 'Disconnect' : 'Reconnect';
-    this.showPending();
+  showState() {
+    const { state } = this.client;
+    const tries = this.isWanted && state !== 'connected' && state !== 'failed';
+    const why = { full: ': the server is full', 'going away': ': the server ends' }[this.closing] || '';
+    this.element.dataset.state = tries ? 'connecting' : state;
+    this.find('.state').textContent = tries && this.closing ? `trying again${why}` : state;
+    this.find('.connection').textContent = this.isWanted && state !== 'failed' ? 'Disconnect' : 'Reconnect';
+    if (state === 'connected') this.closing = '';
   }
 
-  showPending() {
-    const waits = this.client.state !== 'connected' && this.shared.pending > 0;
-    this.find('.pending').textContent = waits ? 'changes wait to be sent' : '';
+  showWaiting(waiting) {
+    this.find('.pending').textContent = waiting ? 'changes wait to be sent' : '';
   }
 
   showVersion(version, source) {
     this.find('.version').textContent = version;
-    this.find('.writer').textContent = source;
+    this.find('.writer').textContent = source.replace(/-.*/, '');
   }
 
   showNotice(text) {
@@ -317,96 +355,74 @@ class View {
     this.find('fieldset').disabled = data === undefined;
     if (data === undefined) return;
     if (operation === null) this.find('.version').textContent = version;
-    this.text.show(data.text, local ? null : operation, ['text']);
-    this.board.show(data.columns, local ? null : operation);
-    this.showPending();
+    this.text.show(data.text, local ? null : operation);
+    this.board.show(data, local ? null : operation);
   }
 }
 
-/** The document at any time since its creation, by a slider. It uses a connection of its own. */
+/** The document at any version, by a slider. It uses a connection of its own. */
 class Life {
   constructor(element, address, id) {
     this.element = element;
     this.slider = element.querySelector('input');
     this.client = new Navirotsohy.Client(address);
     this.id = id;
-    this.birth = null; // milliseconds
-    this.begins = false;
-    this.asked = 0;
+    this.requested = 0;
     this.slider.addEventListener('input', () => this.show());
   }
 
-  at(moment) {
-    return this.client.snapshotAtTime(COLLECTION, this.id, moment);
-  }
-
-  // The document has changed: finds its creation if it isn't known, and follows the present at the slider's end.
-  async changed() {
-    if (this.birth !== null && this.moment() === null) await this.show();
-    if (this.birth === null && !this.begins) {
-      this.begins = true;
-      await this.begin();
-      this.begins = false;
-    }
-  }
-
-  // No answer contains a time, so that of the first operation is found by binary search.
-  async begin() {
-    if ((await this.at(null)).version === 0) return;
-    let [low, high] = [0, Date.now() + CLOCKS_APART];
-    while (low < high) {
-      const middle = Math.floor((low + high) / 2);
-      if ((await this.at(middle)).version === 0) low = middle + 1;
-      else high = middle;
-    }
-    this.birth = low;
+  // The document has a new version. The slider follows if it is at its end.
+  changed(version) {
+    const isAtEnd = this.slider.value === this.slider.max;
+    if (version < 1 || (version === Number(this.slider.max) && !this.element.hidden)) return;
     this.element.hidden = false;
-    await this.show();
-  }
-
-  // The slider's end is the present.
-  moment() {
-    const { value, max } = this.slider;
-    if (value === max) return null;
-    return Math.floor(this.birth + ((Date.now() - this.birth) * value) / max);
+    this.slider.max = version;
+    if (isAtEnd) this.slider.value = version;
+    this.show();
   }
 
   // While the slider moves, only the last answer is shown.
   async show() {
-    const number = (this.asked += 1);
-    const moment = this.moment();
-    const { version, data } = await this.at(moment);
-    if (number !== this.asked) return;
-    const when = moment === null ? 'now' : new Date(moment).toLocaleTimeString();
-    this.element.querySelector('output').textContent = `${when}, version ${version}`;
-    this.element.querySelector('.then').textContent = textOf(data);
+    const number = (this.requested += 1);
+    const { value, max } = this.slider;
+    const found = await this.client.snapshot(COLLECTION, this.id, Number(value)).catch(() => null);
+    if (number !== this.requested || found === null) return; // null after a restart, with fewer versions
+    this.element.querySelector('output').textContent = `version ${value} of ${max}`;
+    this.element.querySelector('.then').textContent = textOf(found.data);
   }
 }
 
 // Describes a document of this page.
 function textOf(data) {
   if (data === undefined) return 'There is no document.';
-  const columns = data.columns.map(({ name, cards }) => {
-    const lines = cards.map(({ title, done, votes }) => `  ${done ? '☑' : '☐'} ${title} (${votes})`);
-    return [name, ...lines].join('\n');
-  });
+  const lineOf = ({ title, done, votes }) => `  ${done ? '☑' : '☐'} ${title} (${votes})`;
+  const columns = data.columns.map((name, column) =>
+    [name, ...idsOf(data, column).map((id) => lineOf(data.cards[id]))].join('\n'),
+  );
   return [data.text.trimEnd(), ...columns].join('\n\n');
+}
+
+/** Returns the address of `?server=`, or that of the proxy that served the page (deploy/nginx.conf), or the default. */
+function serverOf(parameters) {
+  const isSecure = location.protocol === 'https:';
+  const server = parameters.get('server') || (isSecure ? `${location.host}/documents` : '127.0.0.1:8080');
+  return { server, address: server.includes('://') ? server : `${isSecure ? 'wss' : 'ws'}://${server}` };
 }
 
 function main() {
   const parameters = new URLSearchParams(location.search);
-  const server = parameters.get('server') || '127.0.0.1:8080';
-  const address = server.includes('://') ? server : `ws://${server}`;
+  const { server, address } = serverOf(parameters);
   document.querySelector('.top input').value = server;
   const id = parameters.get('document') || 'demo';
   const life = new Life(document.querySelector('.life'), address, id);
   return VIEWS.map((view) => {
     const made = new View(view, address, id);
     document.querySelector('main').append(made.element);
-    made.shared.on('version', () => life.changed());
-    made.shared.on('load', () => life.changed());
+    const changed = () => life.changed(made.shared.version);
+    made.shared.on('version', changed);
+    made.shared.on('load', changed);
     return made;
   });
 }
 
-const views = main(); // a global name for the console
+window.views = main(); // for the console

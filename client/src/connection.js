@@ -56,6 +56,9 @@ const REASONS = {
   1013: 'full',
 };
 
+// The version of the protocol. A server with another one isn't spoken to.
+const PROTOCOL = 1;
+
 const NOTHING = { code: 1006, reason: '' };
 
 /** @type {Clock} */
@@ -153,7 +156,7 @@ export class Client extends Emitter {
     connectionOf(this).disconnect();
   }
 
-  /** Closes the connection and all documents for good. Pending edits are dropped: their promises fail with ERR_CLOSED. */
+  /** Closes the connection and all documents for good. Pending edits are dropped, and fail with ERR_CLOSED. */
   close() {
     connectionOf(this).close();
   }
@@ -208,11 +211,14 @@ class Connection {
     this.source = options.source;
     this.WebSocket = options.WebSocket;
     const { connectTimeout = 20000, heartbeat = 20000, retryDelay = 1000, longestDelay = 30000 } = options;
-    Object.assign(this, { connectTimeout, heartbeat, retryDelay });
+    const { mostTries = Infinity, clock = PLATFORM, random = Math.random } = options;
+    this.connectTimeout = connectTimeout;
+    this.heartbeat = heartbeat;
+    this.retryDelay = retryDelay;
     this.longestDelay = Math.max(longestDelay, retryDelay);
-    this.mostTries = options.mostTries === undefined ? Infinity : options.mostTries;
-    this.clock = options.clock || PLATFORM;
-    this.random = options.random || Math.random;
+    this.mostTries = mostTries;
+    this.clock = clock;
+    this.random = random;
     this.state = 'disconnected';
     this.error = null;
     this.closing = null;
@@ -224,7 +230,7 @@ class Connection {
     this.tries = 0; // connections that failed or were lost since the last handshake
     this.number = 0; // of the last own edit
     this.requested = 0; // of the last requested snapshot
-    this.requests = new Map(); // requested snapshots, by number: { text, isOwn, told }
+    this.requests = new Map(); // requested snapshots, by number: { text, isOwn, receive }
     this.documents = new Map();
     this.transport = {
       source: this.source,
@@ -232,7 +238,7 @@ class Connection {
       nextNumber: () => (this.number += 1),
       send: (text) => this.send(text),
       later: (action) => this.later(action),
-      compare: (c, d, v, told) => this.request({ a: 'nf', c, d, v }, true, told),
+      compare: (c, d, v, receive) => this.request({ a: 'nf', c, d, v }, true, receive),
       snapshot: (c, d, v) => this.snapshot({ a: 'nf', c, d, v }),
       snapshotAtTime: (c, d, ts) => this.snapshot({ a: 'nt', c, d, ts }),
       forget: ({ collection, id }) => this.documents.delete(keyOf(collection, id)),
@@ -288,10 +294,10 @@ class Connection {
   // Snapshots ----------------------------------------------------------------------------------------------------
 
   // Requests a snapshot. One for a document itself is of use only over this connection.
-  request(message, isOwn, told) {
+  request(message, isOwn, receive) {
     this.requested += 1;
     const text = JSON.stringify({ ...message, id: this.requested });
-    this.requests.set(this.requested, { text, isOwn, told });
+    this.requests.set(this.requested, { text, isOwn, receive });
     this.send(text);
   }
 
@@ -303,14 +309,14 @@ class Connection {
       return;
     }
     this.requests.delete(message.id);
-    if (message.error) request.told({ error: refusalOf(message) });
-    else request.told({ snapshot: { version: message.v, data: dataOf(message) } });
+    if (message.error) request.receive({ error: refusalOf(message) });
+    else request.receive({ snapshot: { version: message.v, data: dataOf(message) } });
   }
 
   rejectRequests(error) {
     const requests = [...this.requests.values()];
     this.requests.clear();
-    for (const { told } of requests) told({ error });
+    for (const { receive } of requests) receive({ error });
   }
 
   // Sending ------------------------------------------------------------------------------------------------------
@@ -320,7 +326,7 @@ class Connection {
   }
 
   sendHandshake() {
-    this.socket.send(JSON.stringify({ a: 'hs', id: this.source, protocol: 1 }));
+    this.socket.send(JSON.stringify({ a: 'hs', id: this.source, protocol: PROTOCOL }));
   }
 
   // Runs an action after the delay, if the connection is still the same.
@@ -440,7 +446,7 @@ class Connection {
       this.later(() => this.sendHandshake());
     } else if (message.error) {
       this.fail(refusalOf(message));
-    } else if (message.a === 'init') {
+    } else if (message.a === 'init' && message.protocol === PROTOCOL) {
       this.isOpened = true;
       this.sendHandshake();
     } else if (message.a === 'hs') {

@@ -168,18 +168,18 @@ export class Doc extends Emitter {
   }
 
   /**
-   * Waits until nothing is pending, unsubscribes, and drops the document: the client then returns another object for it.
-   * If `Client.document` is called for it before, the document stays.
+   * Waits until nothing is pending, unsubscribes, and drops the document: the client then returns another object for
+   * it. If `Client.document` is called for it before, the document stays.
    * @param {{discard?: boolean}} [options] `discard` drops pending edits instead of waiting for them
    * @returns {Promise<void>}
    */
-  async destroy({ discard = false } = {}) {
+  async destroy(options = {}) {
     const core = coreOf(this);
     const { machine } = core;
     core.leaving = core.leaving || {};
     const { leaving } = core;
     const isKept = () => machine.state === 'closed' || core.leaving !== leaving;
-    if (discard) run(core, { type: 'discard', error: new Refusal('ERR_CLOSED') });
+    if (options.discard) run(core, { type: 'discard', error: new Refusal('ERR_CLOSED') });
     await until(core, () => machine.pending === 0 || isKept());
     if (isKept()) return;
     await this.unsubscribe();
@@ -283,11 +283,16 @@ function ignorable(promise) {
 
 /**
  * Runs a transition of the document, and then its effects.
- * @package
+ * @internal
  */
 export function run(core, input) {
-  const { transport, machine, doc } = core;
-  const { messages, settled, events, retries, comparison } = machine.transition(input);
+  const { machine } = core;
+  perform(core, machine.transition(input));
+  while (machine.canAdvance) perform(core, machine.transition({ type: 'advance' }));
+}
+
+function perform(core, { messages, settled, events, retries, comparison }) {
+  const { transport, doc } = core;
   for (const message of messages) transport.send(message);
   for (const retry of retries) transport.later(() => run(core, retry));
   if (comparison !== null) compare(core, comparison);
@@ -296,9 +301,9 @@ export function run(core, input) {
   for (const [name, detail] of events) doc.emit(name, detail);
 }
 
-function compare(core, comparison) {
-  const told = (more) => run(core, { type: 'compared', comparison, ...more });
-  core.transport.compare(core.collection, core.id, comparison.version, told);
+function compare(core, version) {
+  const receive = (answer) => run(core, { type: 'compared', ...answer });
+  core.transport.compare(core.collection, core.id, version, receive);
 }
 
 // Looks whether an edit waits, and looks again once the oldest one is old enough.
@@ -312,9 +317,9 @@ function observeWaiting(core, events) {
   if (since !== null && !waiting) {
     const again = () => {
       core.timer = null;
-      const told = [];
-      observeWaiting(core, told);
-      for (const [name, detail] of told) core.doc.emit(name, detail);
+      const due = [];
+      observeWaiting(core, due);
+      for (const [name, detail] of due) core.doc.emit(name, detail);
     };
     core.timer = clock.setTimeout(again, since + PATIENCE - clock.now());
   }
@@ -323,19 +328,19 @@ function observeWaiting(core, events) {
   events.push(['waiting', { waiting }]);
 }
 
-/** Closes the document: whatever waits is refused. @package */
+/** Closes the document: whatever waits is refused. @internal */
 export function close(core) {
   run(core, { type: 'closed', error: new Refusal('ERR_CLOSED') });
 }
 
-/** The client is asked for the document: it isn't destroyed any more. @package */
+/** An application requests the document again: it is destroyed no more. @internal */
 export function keep(core) {
   if (core.leaving === null) return;
   core.leaving = null;
   run(core, { type: 'kept' });
 }
 
-/** @package */
+/** @internal */
 export function coreFor(transport, collection, id) {
   return coreOf(new Doc(transport, collection, id));
 }
@@ -352,16 +357,14 @@ function until(core, holds, begins = false) {
 // An edit that can't be applied here is refused before `data` changes.
 function submitted(doc, read, options) {
   const { source = doc.source } = options || {};
-  const submit = () => {
-    const { machine } = coreOf(doc);
-    machine.checkLoaded();
-    return asked(doc, { type: 'submit', content: read(), source });
-  };
+  const waiter = { resolve: null, reject: null };
+  const stored = new Promise((resolve, reject) => Object.assign(waiter, { resolve, reject }));
   try {
-    return ignorable(submit());
+    run(coreOf(doc), { type: 'submit', content: read(), source, waiter });
   } catch (error) {
     return Promise.reject(error);
   }
+  return ignorable(stored);
 }
 
 async function createdIfAbsent(doc, data) {

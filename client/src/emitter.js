@@ -15,9 +15,8 @@ export function report(error) {
 
 /**
  * Keeps listeners by the name of an event. An exception of a listener is reported, and the others are called.
- *
- * Events are emitted one after the other: an event that a listener causes is emitted after the present one. The state is
- * kept in a closure, so that a proxy of the object works too.
+ * Events are emitted one after the other: an event that a listener causes is emitted after the present one. The state
+ * is kept in a closure, so that a proxy of the object works too.
  * @template Events
  */
 export class Emitter {
@@ -92,7 +91,8 @@ function remove(emitter, event, removed) {
   stateOf(emitter).listeners.set(event, recordsOf(emitter, event).filter((record) => record !== removed));
 }
 
-function add(emitter, event, listener, isOnce, { signal } = {}) {
+function add(emitter, event, listener, isOnce, options) {
+  const signal = options ? options.signal : undefined;
   const record = { listener, isOnce };
   const stop = () => {
     remove(emitter, event, record);

@@ -1,7 +1,8 @@
 /**
  * The state machine of one document. It has no socket, clock or promise: `transition` takes an input and returns the
  * new state, and what its owner has to do: messages to send, promises to settle, events to emit. So no listener runs in
- * the middle of a transition.
+ * the middle of a transition. A transition processes at most one stored operation: `canAdvance` tells whether there is
+ * another one, for an `advance` input.
  *
  * | State | |
  * |---|---|
@@ -42,7 +43,7 @@ import { firstPart, withShortRemoved } from './parts.js';
  * @property {Array<() => void>} settled promises to settle
  * @property {Array<[string, any]>} events to emit
  * @property {Array<object>} retries inputs that follow after a delay
- * @property {{version: number} | null} comparison a snapshot to request, for a `compared` input
+ * @property {number | null} comparison the version of a snapshot to request, for a `compared` input
  */
 
 const NEWER = 'ERR_OP_VERSION_NEWER_THAN_CURRENT_SNAPSHOT';
@@ -72,7 +73,7 @@ export class Machine {
     this.followed = false; // the server has a subscription, after the requests that are answered
     this.requests = []; // { kind, from, purpose, waiters, listed }
     this.delayed = []; // requests that are sent again later
-    this.comparison = null; // the outstanding one
+    this.isComparing = false; // a snapshot for a comparison is outstanding
     this.fetchers = []; // waiters for the next answer
     this.subscribers = [];
     this.leavers = []; // waiters for the end of the subscription
@@ -107,7 +108,7 @@ export class Machine {
 
   /** Whether no answer is outstanding. */
   get isQuiet() {
-    return this.requests.length + this.delayed.length === 0 && this.comparison === null;
+    return this.requests.length === 0 && this.delayed.length === 0 && !this.isComparing;
   }
 
   /** Whether nothing is outstanding that could change the document. */
@@ -172,9 +173,9 @@ export class Machine {
 
   // Sends what the state asks for. Each transition ends with it.
   reconcile() {
-    if (this.state === 'offline' || this.state === 'closed') return;
     if (this.state === 'idle' && this.isNeeded()) this.begin();
     if (this.state === 'live') this.advance();
+    if (this.canAdvance) return;
     if (!this.wanted && this.isToChange) {
       const leave = { kind: 'u', from: null, purpose: 'leave', waiters: this.leavers.splice(0), listed: [] };
       this.sendRequest(leave);
@@ -202,8 +203,8 @@ export class Machine {
       if (this.last !== null) {
         this.ask(this.version - 1, 'verify');
       } else {
-        this.comparison = { version: this.version };
-        this.out.comparison = this.comparison;
+        this.isComparing = true;
+        this.out.comparison = this.version;
       }
     }
   }
@@ -228,8 +229,7 @@ export class Machine {
   // Settles the promises whose conditions hold.
   settle() {
     this.resolve(this.leavers.splice(0));
-    const isSubscribed = this.wanted && this.followed && this.state === 'live' && this.willFollow;
-    if (isSubscribed && !this.requests.some(({ kind }) => kind !== 'f')) this.resolve(this.subscribers.splice(0));
+    if (this.state === 'live' && this.followed && !this.requests.some(({ kind }) => kind !== 'f')) this.resolve(this.subscribers.splice(0));
     const ready = this.conditions.filter(({ holds }) => holds(this));
     this.conditions = this.conditions.filter((one) => !ready.includes(one));
     this.resolve(ready.map(({ waiter }) => waiter));
@@ -252,7 +252,7 @@ export class Machine {
     } else if (isWhole) {
       this.receiveSnapshot(request, message.data);
     } else if (request.purpose === 'verify' && !this.isVerified(request)) {
-      this.fetchers.unshift(...request.waiters);
+      this.fetchers.push(...request.waiters);
       this.restart();
     } else {
       this.receiveEnd(request);
@@ -266,6 +266,7 @@ export class Machine {
     }
     const before = this.data;
     this.version = snapshot.v;
+    for (const version of this.arrived.keys()) if (version < snapshot.v) this.arrived.delete(version);
     this.confirmed = dataOf(snapshot);
     this.data = this.confirmed;
     this.state = 'live';
@@ -283,15 +284,12 @@ export class Machine {
   receiveEnd(request) {
     this.resolve(request.waiters);
     if (BEGINNING.has(this.state)) this.state = 'live';
-    if (this.state !== 'live' || request.purpose !== 'catch up') return;
-    this.advance();
-    const isStuck = this.state === 'live' && this.arrived.size > 0 && this.version === request.from;
+    const isStuck = this.arrived.size > 0 && !this.canAdvance && this.version === request.from;
     if (isStuck) this.heal(refusal('ERR_PROTOCOL', `the server doesn't send the operation ${this.version}`));
   }
 
-  receiveCompared({ comparison, snapshot, error }) {
-    if (comparison !== this.comparison) return;
-    this.comparison = null;
+  receiveCompared({ snapshot, error }) {
+    this.isComparing = false;
     if (error && error.code !== NEWER) this.refuseDocument(error);
     else if (error || !isSame(this.confirmed, snapshot.data)) this.restart();
     else this.catchUp();
@@ -312,7 +310,7 @@ export class Machine {
     } else if (request.purpose === 'list') {
       this.reject(request.waiters, error);
     } else if (error.code === NEWER) {
-      this.fetchers.unshift(...request.waiters);
+      this.fetchers.push(...request.waiters);
       this.restart();
     } else if (request.kind === 's') {
       this.refuseSubscription(request, error);
@@ -326,7 +324,7 @@ export class Machine {
   refuseSubscription(request, error) {
     this.wanted = false;
     this.reject(this.subscribers.splice(0), error);
-    this.fetchers.unshift(...request.waiters);
+    this.fetchers.push(...request.waiters);
     this.emit('error', error);
     if (BEGINNING.has(this.state)) this.state = 'idle';
   }
@@ -343,17 +341,16 @@ export class Machine {
 
   retry({ request, seq }) {
     if (request === undefined) {
-      if (this.inFlight && this.inFlight.seq === seq && this.inFlight.sent) this.out.messages.push(this.inFlight.text);
+      if (this.inFlight && this.inFlight.seq === seq) this.out.messages.push(this.inFlight.text);
       return;
     }
-    if (!this.delayed.includes(request)) return;
     this.delayed = this.delayed.filter((one) => one !== request);
     if (request.kind === 'f' || (request.kind === 's') === this.wanted) {
       this.sendRequest(request);
     } else if (request.kind === 'u') {
       this.resolve(request.waiters);
     } else {
-      this.fetchers.unshift(...request.waiters);
+      this.fetchers.push(...request.waiters);
       if (BEGINNING.has(this.state)) this.state = 'idle';
     }
   }
@@ -374,7 +371,7 @@ export class Machine {
     if (isOwn) this.inFlight.answered = message.v;
     if (isOwn && this.inFlight.content === null && content === null) {
       this.storedAfterAll(message.v);
-    } else if (this.version !== null && message.v >= this.version && (content !== null || isOwn)) {
+    } else if ((content !== null || isOwn) && (this.version === null || message.v >= this.version)) {
       if (content !== null || !this.arrived.has(message.v)) this.arrived.set(message.v, entry);
     } else if (isOwn && this.version !== null) {
       this.heal(refusal('ERR_PROTOCOL', `another operation was received as the own one ${message.v}`));
@@ -386,13 +383,19 @@ export class Machine {
     const { waiters, dropped } = this.inFlight;
     this.inFlight = null;
     this.resolve(waiters, { version });
-    this.tellDropped(dropped, new Refusal('ERR_OT_OP_NOT_APPLIED'));
+    this.reportDropped(dropped, new Refusal('ERR_OT_OP_NOT_APPLIED'));
     if (this.state === 'live' && version >= this.version) this.ask(this.version, 'catch up');
   }
 
+  // Whether another stored operation is processed by the next transition: there is one for each, so that `data` is the
+  // document after the operation while its events are emitted.
+  get canAdvance() {
+    return this.state === 'live' && this.arrived.has(this.version);
+  }
+
   advance() {
-    while (this.state === 'live' && this.arrived.has(this.version)) this.see(this.arrived.get(this.version));
-    if (this.state === 'live') this.useFetched();
+    if (this.canAdvance) this.see(this.arrived.get(this.version));
+    if (this.state === 'live' && !this.canAdvance) this.useFetched();
   }
 
   see(entry) {
@@ -400,9 +403,11 @@ export class Machine {
     this.arrived.delete(version);
     const own = this.isInFlight({ seq, src: source }) ? this.inFlight : null;
     const shown = own !== null && own.content !== null;
-    const content = entry.content || own.content;
+    const content = entry.content || (own && own.content);
     if (content === null) {
-      this.storedAfterAll(version);
+      // (the client knows the content no more)
+      if (own !== null) this.storedAfterAll(version);
+      else this.ask(version, 'catch up');
       return;
     }
     const before = this.confirmed;
@@ -416,18 +421,18 @@ export class Machine {
     this.version += 1;
     this.last = { source, seq };
     if (own !== null) this.inFlight = null;
-    if (!shown) this.showOther(entry, isComplete(before, content));
+    if (!shown) this.showOther(entry, before);
     else if (!isSame(content, own.content)) this.replaceData();
     this.emit('version', { version, source, seq });
     if (own === null) return;
     this.emit('stored', { version, source, seq });
     this.resolve(own.waiters, { version });
-    this.tellDropped(own.dropped, new Refusal('ERR_OT_OP_NOT_APPLIED'));
+    this.reportDropped(own.dropped, new Refusal('ERR_OT_OP_NOT_APPLIED'));
   }
 
   // Transforms the pending contents against a stored one, and shows it. The first pending content that is refused is
   // dropped with those made on it.
-  showOther({ content, source }, isExact) {
+  showOther({ content, source }, confirmed) {
     const pending = this.pendingRecords();
     const before = this.data;
     let rest = content;
@@ -441,11 +446,11 @@ export class Machine {
         const dropped = this.dropFrom(at);
         this.replaceData();
         this.emitLife(content, source, before);
-        this.tellDropped(dropped, error);
+        this.reportDropped(dropped, error);
         return;
       }
     }
-    if (pending.length > 0 && !isExact) {
+    if (pending.length > 0 && !isComplete(confirmed, content)) {
       this.replaceData();
       return;
     }
@@ -486,7 +491,7 @@ export class Machine {
         if (!(error instanceof Refusal)) throw error;
         const dropped = this.dropFrom(at);
         this.emitWhole(before);
-        this.tellDropped(dropped, error);
+        this.reportDropped(dropped, error);
         return;
       }
     }
@@ -508,11 +513,11 @@ export class Machine {
   // The server was restarted and has lost this document. Its present document is another one.
   restart() {
     const error = new Refusal('ERR_SERVER_RESTARTED');
-    const told = { version: this.version, data: this.confirmed, contents: this.contents() };
+    const lost = { version: this.version, data: this.confirmed, contents: this.contents() };
     const dropped = this.takePending();
     this.forgetData();
-    this.tellDropped(dropped, error);
-    this.emit('restarted', told);
+    this.reportDropped(dropped, error);
+    this.emit('restarted', lost);
     this.load();
   }
 
@@ -521,7 +526,7 @@ export class Machine {
     const { version } = this;
     const dropped = this.takeUnanswered();
     this.forgetData();
-    this.tellDropped(dropped, error);
+    this.reportDropped(dropped, error);
     this.emit('healed', { version });
     this.load();
   }
@@ -656,11 +661,11 @@ export class Machine {
     const dropped = [record, ...(isKnown ? record.dropped : this.queue.splice(0))];
     this.inFlight = null;
     if (!isKnown) this.replaceData();
-    this.tellDropped(dropped, error);
+    this.reportDropped(dropped, error);
     this.request('f', null, 'check');
   }
 
-  tellDropped(records, error) {
+  reportDropped(records, error) {
     const contents = records.map(({ content, lost }) => content || lost);
     for (const { waiters } of records) this.reject(waiters, error);
     // Another client created the document first, as `createIfAbsent` allows.
@@ -678,7 +683,7 @@ export class Machine {
   disconnected() {
     this.state = 'offline';
     this.followed = false;
-    this.comparison = null;
+    this.isComparing = false;
     this.fetched = null;
     this.arrived.clear();
     const requests = [...this.requests, ...this.delayed];
@@ -706,8 +711,6 @@ export class Machine {
     this.wanted = false;
     this.failed(error);
     this.discard({ error });
-    this.settle();
-    this.reject(this.conditions.splice(0).map(({ waiter }) => waiter), error);
   }
 
   // Calls --------------------------------------------------------------------------------------------------------
@@ -743,14 +746,13 @@ export class Machine {
   }
 
   until({ holds, begins, waiter }) {
-    if (this.state === 'closed' && !holds(this)) refuse('ERR_CLOSED');
     this.conditions.push({ holds, begins, waiter });
   }
 
   discard({ error }) {
     const dropped = this.takePending();
     if (dropped.length > 0) this.replaceData();
-    this.tellDropped(dropped, error);
+    this.reportDropped(dropped, error);
   }
 
   receive({ message, error }) {
@@ -775,6 +777,7 @@ const INPUTS = {
   list: (machine, input) => machine.list(input),
   until: (machine, input) => machine.until(input),
   kept: () => {}, // only the conditions have changed
+  advance: () => {}, // each transition processes an operation, if there is one
   discard: (machine, input) => machine.discard(input),
 };
 

@@ -3,10 +3,12 @@
 import assert from 'node:assert';
 import { test } from 'node:test';
 import { Client } from '../src/index.js';
+import { bytesOf } from '../src/limits.js';
+import { Machine } from '../src/machine.js';
 import { flush } from './support/clock.js';
 import {
-  ADDRESS, SOON, absent, acknowledged, compared, holds, insert, loaded, namesOf, reconnected, refused, scripted, started,
-  stored, storedCreate, storedDelete,
+  ADDRESS, SOON, absent, acknowledged, compared, holds, insert, loaded, namesOf, reconnected, refused, scripted,
+  started, stored, storedCreate, storedDelete,
 } from './support/scripted.js';
 
 const NEWER = 'ERR_OP_VERSION_NEWER_THAN_CURRENT_SNAPSHOT';
@@ -153,10 +155,12 @@ test('a promise waits for its answer while the document is loaded anew', OPTIONS
     const edits = [doc.submit(insert(0, '-')), doc.submit(insert(0, '+'))];
     socket.answer(stored(3, [{ p: [0], sd: 'right' }]));
     assert.deepStrictEqual([doc.pending, doc.data], [1, 'wrong']);
+    socket.taken();
     socket.answer(isStored ? acknowledged(4, 1) : refused('op', 'ERR_LIMIT', { src: 'me', seq: 1 }));
     if (isStored) assert.deepStrictEqual(await edits[0], { version: 4 });
     else await assert.rejects(edits[0], { code: 'ERR_LIMIT' });
     await assert.rejects(edits[1], { name: 'Refusal' });
+    assert.deepStrictEqual(socket.taken(), isStored ? [] : [{ a: 'f', ...ADDRESS }]);
     socket.answer({ a: 's', ...ADDRESS, data: { data: 'fine', v: 5 } });
     holds(doc, 5, 'fine');
     const told = events.filter(([name]) => name === 'refused').map(([, { contents }]) => contents.length);
@@ -267,7 +271,7 @@ test('an allocation failure: a snapshot and the handshake are requested again', 
   client.disconnect();
   client.connect();
   const next = sockets.last();
-  next.answer({ a: 'init', id: 's2' }, { a: 'hs', error: { code: 'ERR_OUT_OF_MEMORY', message: '' } });
+  next.answer({ a: 'init', id: 's2', protocol: 1 }, { a: 'hs', error: { code: 'ERR_OUT_OF_MEMORY', message: '' } });
   assert.strictEqual(next.sent.splice(0).length, 1);
   clock.advance(SOON);
   assert.deepStrictEqual(next.sent, [{ a: 'hs', id: 'me', protocol: 1 }]);
@@ -445,7 +449,14 @@ test('another client creates the document first', OPTIONS, () => {
 test('the document is deleted concurrently with an edit', OPTIONS, async () => {
   const { doc, events, socket } = loaded();
   const edits = [doc.submit(insert(3, 'd')), doc.submit(insert(3, 'e'))];
+  const told = [];
+  doc.on('remove', (detail) => told.push(detail));
+  doc.on('change', ({ operation, local, source, before, data }) => told.push([operation, local, source, before, data]));
   socket.answer(storedDelete(3));
+  assert.deepStrictEqual(told, [
+    [null, false, null, 'abced', undefined],
+    { source: 'other', local: false, data: 'abced' },
+  ]);
   assert.deepStrictEqual([doc.data, doc.pending], [undefined, 1]);
   socket.answer(refused('op', 'ERR_DOC_WAS_DELETED', { src: 'me', seq: 1 }));
   for (const edit of edits) await assert.rejects(edit, { code: 'ERR_DOC_WAS_DELETED' });
@@ -502,7 +513,11 @@ test('a server that never sends a missing operation: the document is loaded anew
 test('an edit that the server would refuse by its form is refused before it is shown', OPTIONS, async () => {
   const { doc, socket } = loaded({ t: 'abc', n: 1, l: [1] });
   let deep = 0;
-  for (let depth = 0; depth < 51; depth += 1) deep = [deep];
+  let deepObject = 0;
+  for (let depth = 0; depth < 51; depth += 1) {
+    deep = [deep];
+    deepObject = { a: deepObject };
+  }
   class Special {}
   const bad = [
     [[{ p: ['n'], na: 1.5 }], /component 0, na: 1.5 is no whole number/],
@@ -515,6 +530,7 @@ test('an edit that the server would refuse by its form is refused before it is s
     [[{ p: ['k'], oi: new Date(0) }], /of the class Date, and no plain object/],
     [[{ p: ['k'], oi: new Special() }], /of the class Special/],
     [[{ p: ['k'], oi: deep }], /more than 50 levels deep/],
+    [[{ p: ['k'], oi: deepObject }], /more than 50 levels deep/],
     [[{ p: ['k'], oi: ['\ud83d'] }], /half a surrogate pair/],
     [[{ p: ['k'], oi: { '\ud83d': 1 } }], /a key has half a surrogate pair/],
     [[{ p: ['t', 0], si: '\ud83d' }], /is no text of whole characters/],
@@ -671,10 +687,16 @@ test('createIfAbsent is fulfilled at once if the document exists, and by the own
 });
 
 test('createIfAbsent fails if the create is refused, or if the first document is deleted', OPTIONS, async () => {
-  const { doc, socket } = absent();
+  const { doc, events, socket } = absent();
   const made = doc.createIfAbsent('mine');
   socket.answer(refused('op', 'ERR_LIMIT', { src: 'me', seq: 1 }));
   await assert.rejects(made, { code: 'ERR_LIMIT' });
+  assert.deepStrictEqual(namesOf(events), ['refused']);
+  const both = absent();
+  both.doc.remove();
+  both.doc.create({});
+  both.socket.answer(refused('op', 'ERR_DOC_ALREADY_CREATED', { src: 'me', seq: 1 }));
+  assert.deepStrictEqual(both.events.map(([name, { contents }]) => [name, contents.length]), [['refused', 2]]);
   const all = absent();
   const lost = all.doc.createIfAbsent('mine');
   all.socket.answer(refused('op', 'ERR_DOC_ALREADY_CREATED', { src: 'me', seq: 1 }));
@@ -1020,6 +1042,9 @@ test('the stored operations from a version on', OPTIONS, async () => {
   const none = doc.operations(4);
   socket.answer({ a: 'f', ...ADDRESS });
   assert.deepStrictEqual(await none, []);
+  const later = doc.operations(5);
+  socket.answer(stored(4, insert(0, 'y')), { a: 'f', ...ADDRESS });
+  assert.deepStrictEqual(await later, []);
   const refusal = doc.operations(9);
   socket.answer(refused('f', NEWER));
   await assert.rejects(refusal, { code: NEWER });
@@ -1116,3 +1141,249 @@ function scriptedProjection() {
   setImmediate(() => client.close());
   return { client, socket: sockets.last() };
 }
+
+test('a subscription is complete once all requests for it are answered', OPTIONS, async () => {
+  const { doc, socket } = started();
+  const first = doc.subscribe();
+  doc.unsubscribe();
+  const second = doc.subscribe();
+  let isDone = false;
+  second.then(() => (isDone = true));
+  await assert.rejects(first, { code: 'ERR_CLOSED' });
+  assert.deepStrictEqual(socket.taken(), [{ a: 's', ...ADDRESS, v: null }, { a: 'u', ...ADDRESS }]);
+  socket.answer({ a: 's', ...ADDRESS, data: { data: 'abc', v: 3 } });
+  assert.deepStrictEqual(socket.taken(), [{ a: 's', ...ADDRESS, v: 3 }]);
+  await flush();
+  assert.strictEqual(isDone, false);
+  socket.answer({ a: 'u', ...ADDRESS });
+  await flush();
+  assert.strictEqual(isDone, false);
+  socket.answer({ a: 's', ...ADDRESS });
+  await second;
+});
+
+test('an absent document after a reconnect', OPTIONS, () => {
+  const all = absent();
+  const next = reconnected(all);
+  assert.deepStrictEqual([all.doc.state, next.taken()], ['catching up', [{ a: 's', ...ADDRESS, v: 0 }]]);
+  next.answer(storedCreate(0, 'x'), { a: 's', ...ADDRESS });
+  holds(all.doc, 1, 'x');
+});
+
+test('a fetch is served after a verification that fails, and after a subscription that is refused', OPTIONS, async () => {
+  const answers = [
+    [stored(3, insert(0, 'q'), 'stranger'), { a: 's', ...ADDRESS }],
+    [refused('s', NEWER)],
+    [refused('s', 'ERR_LIMIT')],
+  ];
+  for (const [at, messages] of answers.entries()) {
+    const { client, doc, socket, sockets } = loaded();
+    socket.answer(stored(3, insert(0, 'x')));
+    client.disconnect();
+    const fetching = doc.fetch();
+    client.connect();
+    const next = sockets.last();
+    next.open();
+    next.taken();
+    next.answer(...messages);
+    const [{ a, v }] = next.taken();
+    assert.deepStrictEqual([a, v], [['s', null], ['s', null], ['f', 3]][at]);
+    if (v === 3) next.answer(stored(3, insert(0, 'x')), { a, ...ADDRESS });
+    else next.answer({ a, ...ADDRESS, data: { data: 'new', v: 9 } });
+    assert.strictEqual(await fetching, doc);
+  }
+});
+
+test('a fetch is served after a subscription that isn\'t wanted any more', OPTIONS, async () => {
+  const { client, clock, doc, socket, sockets } = started({ connect: false });
+  assert.strictEqual(socket, undefined);
+  const fetching = doc.fetch();
+  const subscribing = doc.subscribe();
+  client.connect();
+  const next = sockets.last();
+  next.open();
+  next.answer(refused('s', 'ERR_OUT_OF_MEMORY'));
+  doc.unsubscribe();
+  await assert.rejects(subscribing, { code: 'ERR_CLOSED' });
+  next.taken();
+  clock.advance(SOON);
+  assert.deepStrictEqual(next.taken(), [{ a: 'f', ...ADDRESS }]);
+  next.answer({ a: 'f', ...ADDRESS, data: { data: 'abc', v: 3 } });
+  await fetching;
+});
+
+test('a comparison that is refused: what waits for the document is refused', OPTIONS, async () => {
+  const { client, doc, socket, sockets } = started();
+  doc.fetch();
+  socket.answer({ a: 'f', ...ADDRESS, data: { type: null, v: 3 } });
+  const made = doc.createIfAbsent('x');
+  socket.answer(refused('op', 'ERR_DOC_ALREADY_CREATED', { seq: 1, src: 'me' }));
+  await flush();
+  client.disconnect();
+  const fetching = doc.fetch();
+  client.connect();
+  const next = sockets.last();
+  next.open();
+  const [{ id }] = next.taken();
+  next.answer(refused('nf', 'ERR_MESSAGE_BADLY_FORMED', { id }));
+  for (const one of [made, fetching]) await assert.rejects(one, { code: 'ERR_MESSAGE_BADLY_FORMED' });
+});
+
+test('an operation that was stored after an allocation failure is not sent again', OPTIONS, () => {
+  const { clock, doc, socket } = loaded();
+  doc.submit(insert(3, 'd'));
+  socket.answer(refused('op', 'ERR_OUT_OF_MEMORY', { src: 'me', seq: 1 }), acknowledged(3, 1));
+  socket.taken();
+  clock.advance(SOON);
+  assert.deepStrictEqual(socket.taken(), []);
+  doc.submit(insert(3, 'e'));
+  socket.answer(refused('op', 'ERR_OUT_OF_MEMORY', { src: 'me', seq: 2 }), acknowledged(4, 2));
+  doc.submit(insert(3, 'f'));
+  assert.strictEqual(socket.taken().length, 2);
+  clock.advance(SOON);
+  assert.deepStrictEqual(socket.taken(), []);
+});
+
+test('a document is destroyed after requests that were sent again, compared or lost', OPTIONS, async () => {
+  const again = loaded();
+  const listing = again.doc.operations(1);
+  again.socket.answer(refused('f', 'ERR_OUT_OF_MEMORY'));
+  again.clock.advance(SOON);
+  again.socket.answer({ a: 'f', ...ADDRESS });
+  await listing;
+  const all = loaded();
+  const fetching = all.doc.fetch();
+  all.socket.answer(refused('f', 'ERR_OUT_OF_MEMORY'));
+  const next = reconnected(all);
+  assert.strictEqual(next.taken().length, 1);
+  const last = reconnected({ ...all, socket: next });
+  compared(last);
+  last.answer({ a: 's', ...ADDRESS });
+  await fetching;
+  for (const { doc, socket } of [again, { ...all, socket: last }]) {
+    const leaving = doc.destroy();
+    await flush();
+    socket.answer({ a: 'u', ...ADDRESS });
+    await leaving;
+    assert.strictEqual(doc.state, 'closed');
+  }
+  const lost = loaded();
+  const once = reconnected(lost);
+  assert.strictEqual(once.taken().length, 1);
+  lost.doc.unsubscribe();
+  reconnected({ ...lost, socket: once });
+  await lost.doc.destroy();
+  assert.strictEqual(lost.doc.state, 'closed');
+});
+
+test('an operation that the client expected to be refused is received as a stored one', OPTIONS, async () => {
+  const most = Number.MAX_SAFE_INTEGER;
+  const all = loaded({ n: most - 1 });
+  const { doc, events, socket } = all;
+  const edits = [doc.submit([{ p: ['n'], na: 1 }]), doc.submit([{ p: ['k'], oi: 1 }])];
+  socket.answer(stored(3, [{ p: ['n'], na: 1 }]));
+  const next = reconnected(all);
+  next.taken();
+  next.answer(stored(3, [{ p: ['n'], na: 1 }]), stored(4, [{ p: ['o'], oi: 1 }], 'me', 1), { a: 's', ...ADDRESS });
+  assert.deepStrictEqual(await edits[0], { version: 4 });
+  await assert.rejects(edits[1], { name: 'Refusal' });
+  holds(doc, 5, { n: most, o: 1 });
+  assert.deepStrictEqual(namesOf(events), ['stored', 'refused']);
+});
+
+test('a document that is loaded anew while edits wait: they are refused', OPTIONS, async () => {
+  const { client, doc, events, sockets } = loaded('wrong');
+  client.disconnect();
+  const edit = doc.submit(insert(0, '-'));
+  client.connect();
+  const next = sockets.last();
+  next.open();
+  compared(next, 'wrong');
+  next.answer(stored(3, [{ p: [0], sd: 'right' }]), { a: 's', ...ADDRESS });
+  await assert.rejects(edit, { code: 'ERR_OT_OP_NOT_APPLIED' });
+  assert.deepStrictEqual(namesOf(events), ['refused', 'healed']);
+});
+
+test('after a restart the documents are compared at the next reconnect', OPTIONS, () => {
+  const all = loaded();
+  all.socket.answer(stored(3, insert(0, 'x')));
+  const next = reconnected(all);
+  next.answer(refused('s', NEWER), { a: 's', ...ADDRESS, data: { data: 'new', v: 2 } });
+  next.taken();
+  const last = reconnected({ ...all, socket: next });
+  assert.deepStrictEqual(last.taken().map(({ a, v }) => [a, v]), [['nf', 2]]);
+});
+
+test('waiting edits are composed up to 64 components and 65,536 characters', OPTIONS, () => {
+  const { client, doc } = loaded({ l: [], t: '' });
+  client.disconnect();
+  for (let at = 0; at < 70; at += 1) doc.submit([{ p: ['l', at], li: at }]);
+  assert.strictEqual(doc.pending, 2);
+  const text = loaded({ t: '' });
+  text.client.disconnect();
+  for (let at = 0; at < 4; at += 1) text.doc.submit([{ p: ['t', 0], si: 'x'.repeat(30000) }]);
+  assert.strictEqual(text.doc.pending, 2);
+  for (let at = 0; at < 4; at += 1) text.doc.submit([{ p: ['t', 0], si: 'x'.repeat(1000) }]);
+  assert.strictEqual(text.doc.pending, 2);
+});
+
+test('an edit that is discarded after its acknowledgement: its content is requested', OPTIONS, async () => {
+  const { client, doc, socket } = loaded();
+  const edit = doc.submit(insert(3, 'd'));
+  socket.answer(acknowledged(4, 1));
+  doc.destroy({ discard: true });
+  assert.strictEqual(client.document(ADDRESS.c, ADDRESS.d), doc);
+  await assert.rejects(edit, { code: 'ERR_CLOSED' });
+  socket.taken();
+  socket.answer(stored(3, insert(0, 'x')));
+  assert.deepStrictEqual([doc.version, doc.data, socket.taken()], [4, 'xabc', [{ a: 's', ...ADDRESS, v: 4 }]]);
+  socket.answer(stored(4, insert(4, 'd'), 'me', 1), { a: 's', ...ADDRESS }, { a: 's', ...ADDRESS });
+  holds(doc, 5, 'xabcd');
+});
+
+test('the components of a message fill it up to its limit', OPTIONS, () => {
+  const settings = { collection: 'é"', id: '1', source: 'me', nextNumber: () => 1, now: () => 0 };
+  const machine = new Machine(settings);
+  const component = { p: ['t', 0], si: '' };
+  component.si = 'x'.repeat(machine.room - bytesOf(JSON.stringify(component)));
+  const text = machine.textOf({ op: [component] }, Number.MAX_SAFE_INTEGER, Number.MAX_SAFE_INTEGER);
+  assert.strictEqual(bytesOf(text), 1048576);
+});
+
+test('operations that are received before the document they apply to', OPTIONS, () => {
+  const { doc, socket } = started();
+  doc.subscribe();
+  socket.taken();
+  socket.answer(stored(3, insert(0, 'x')), stored(4, insert(0, 'y')), { a: 's', ...ADDRESS, data: { data: 'xabc', v: 4 } });
+  holds(doc, 5, 'yxabc');
+  socket.answer(stored(5, insert(0, 'z')));
+  holds(doc, 6, 'zyxabc');
+  assert.deepStrictEqual(socket.taken(), []);
+});
+
+test('`data` is the document after the operation while its events are emitted', OPTIONS, () => {
+  const all = loaded();
+  const { doc, socket } = all;
+  const told = [];
+  doc.on('op', ({ data }) => told.push([data, doc.data, doc.version]));
+  socket.answer(stored(4, insert(0, 'y')), stored(5, insert(0, 'z')));
+  socket.taken();
+  socket.answer(stored(3, insert(0, 'x')));
+  assert.deepStrictEqual(told, [['xabc', 'xabc', 4], ['yxabc', 'yxabc', 5], ['zyxabc', 'zyxabc', 6]]);
+  const next = reconnected(all);
+  next.answer(stored(5, insert(0, 'z')), stored(6, insert(0, '1')), stored(7, insert(0, '2')), { a: 's', ...ADDRESS });
+  assert.deepStrictEqual(told.slice(3), [['1zyxabc', '1zyxabc', 7], ['21zyxabc', '21zyxabc', 8]]);
+});
+
+test('an edit is sent once all operations that were received are processed', OPTIONS, () => {
+  const { client, doc, socket, sockets } = loaded();
+  socket.answer(stored(3, insert(0, 'x')));
+  client.disconnect();
+  doc.submit(insert(4, '!'));
+  client.connect();
+  const next = sockets.last();
+  next.open();
+  next.taken();
+  next.answer(stored(3, insert(0, 'x')), stored(4, insert(0, 'y')), stored(5, insert(0, 'z')), { a: 's', ...ADDRESS });
+  assert.deepStrictEqual(next.taken(), [{ a: 'op', ...ADDRESS, v: 6, src: 'me', seq: 1, op: insert(6, '!') }]);
+});

@@ -45,7 +45,9 @@ test('subscribe, unsubscribe, subscribe before the first answer: the document is
   await second;
   for (let made = 0; made < 3; made += 1) ben.doc.submit([{ p: ['n'], na: 1 }]);
   await net.settle();
-  for (const one of [doc, cold]) assert.deepStrictEqual([one.version, one.data, one.wanted], [ben.doc.version, { n: 3 }, true]);
+  for (const one of [doc, cold]) {
+    assert.deepStrictEqual([one.version, one.data, one.wanted], [ben.doc.version, { n: 3 }, true]);
+  }
 });
 
 test('an edit by a listener of `refused` or `restarted` is refused while the document is loaded anew', OPTIONS, async () => {
@@ -59,7 +61,10 @@ test('an edit by a listener of `refused` or `restarted` is refused while the doc
     client.disconnect();
     doc.submit([{ p: ['n'], na: 5 }]);
     let edit = null;
-    doc.once(event, () => (edit = doc.submit([{ p: ['n'], na: 1000 }])));
+    doc.once(event, () => {
+      edit = doc.submit([{ p: ['n'], na: 1000 }]);
+      edit.catch(() => {});
+    });
     net.restart();
     const other = net.client('other').doc;
     other.subscribe();
@@ -88,9 +93,10 @@ test('remove and create concurrently with an edit of another client: both are st
 });
 
 test('a delete that others\' inserts split into 301 components is sent in parts', OPTIONS, async () => {
-  const { net, ada, ben } = await pair({ t: 'x'.repeat(1000) });
+  const { net, ada, ben } = await pair({ t: 'x'.repeat(1000), u: '' });
   ada.client.disconnect();
-  const edits = [ada.doc.submit([{ p: ['t', 0], sd: 'x'.repeat(1000) }]), ada.doc.submit([{ p: ['t', 0], si: 'new' }])];
+  const own = [[{ p: ['t', 0], sd: 'x'.repeat(1000) }], [{ p: ['u', 0], si: 'y'.repeat(65000) }]];
+  const edits = own.map((operation) => ada.doc.submit(operation));
   for (let at = 0; at < 300; at += 1) {
     ben.doc.submit([{ p: ['t', 4 * at + 1], si: '-' }]);
     net.deliver();
@@ -98,10 +104,10 @@ test('a delete that others\' inserts split into 301 components is sent in parts'
   ada.client.connect();
   await net.settle();
   const [gone] = await Promise.all(edits);
-  for (const { doc } of [ada, ben]) assert.deepStrictEqual(doc.data.t, `new${'-'.repeat(300)}`);
-  const own = net.stored.log.filter(({ src, content }) => src === 'ada' && content.op);
-  assert.deepStrictEqual(own.map(({ content }) => content.op.length), [256, 46]);
-  assert.strictEqual(gone.version, own[1].v);
+  for (const { doc } of [ada, ben]) assert.deepStrictEqual(doc.data, { t: '-'.repeat(300), u: 'y'.repeat(65000) });
+  const parts = net.stored.log.filter(({ src, content }) => src === 'ada' && content.op);
+  assert.deepStrictEqual(parts.map(({ content }) => content.op.length), [256, 45, 1]);
+  assert.strictEqual(gone.version, parts[1].v);
 });
 
 test('a part that is refused: the rest is dropped with it', OPTIONS, async () => {
@@ -177,15 +183,31 @@ test('a text of more than a message that was deleted offline is sent in parts', 
   await net.settle();
   ada.client.disconnect();
   const edit = ada.doc.submit([{ p: ['t', 0], sd: half.slice(2) }]);
-  const [before] = ada.doc.data.t;
-  assert.strictEqual(before.length, 1);
-  for (let at = 0; at < 200; at += 1) ben.doc.submit([{ p: ['t', 1000 * at + 2], si: '-'.repeat(9) }]);
-  net.deliver();
+  for (let at = 0; at < 20; at += 1) {
+    ben.doc.submit([{ p: ['t', 1000 * at + 2], si: '-'.repeat(100) }]);
+    net.deliver();
+  }
   ada.client.connect();
   await net.settle();
   await edit;
   assert.deepStrictEqual(ada.doc.data, ben.doc.data);
-  assert.strictEqual(ada.doc.data.t.length, 260002 + 1800);
+  assert.strictEqual(ada.doc.data.t.length, 260002 + 2000);
+});
+
+test('a delete that others\' inserts make too long for a message is sent in parts', OPTIONS, async () => {
+  const { net, ada, ben } = await pair({ t: '' });
+  for (let made = 0; made < 2; made += 1) {
+    ben.doc.submit([{ p: ['t', 0], si: 'x'.repeat(523000) }]);
+    net.deliver();
+  }
+  ada.client.disconnect();
+  const edit = ada.doc.submit([{ p: ['t', 0], sd: 'x'.repeat(1046000) }]);
+  for (let at = 0; at < 150; at += 1) ben.doc.submit([{ p: ['t', 5 * at + 1], si: '-' }]);
+  net.deliver();
+  ada.client.connect();
+  await net.settle();
+  await edit;
+  for (const { doc } of [ada, ben]) assert.strictEqual(doc.data.t, '-'.repeat(150));
 });
 
 test('`refused` names the edits that aren\'t stored only', OPTIONS, async () => {

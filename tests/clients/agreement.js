@@ -1,18 +1,19 @@
 /*
- * Compares the transforms of examples/client.js with the server's, over lines and without a socket.
+ * Compares the client's transforms with the server's, over lines and without a socket.
  *
  *     node tests/clients/agreement.js SERVER [CASES] [SEED]
  *
  * Each case is a random document, one to three operations stored on it one after the other, and one with the first
  * version as its base version. The server's code or version, its stored operation and its final document must be those
- * that the client's functions return. The status is 1, with a line for each of the first differences, if they differ.
+ * that the client's functions return. The cases are made by the model of client/test, so that the tested code can't
+ * shape them. The status is 1, with a line for each of the first differences, if they differ.
  */
-'use strict';
 
-const { spawnSync } = require('child_process');
-const { isDeepStrictEqual } = require('util');
-const { apply, cross } = require('../../examples/client.js');
-const { choices } = require('./random.js');
+import { spawnSync } from 'node:child_process';
+import { isDeepStrictEqual } from 'node:util';
+import { Refusal, apply, cross } from '../../client/src/index.js';
+import { Failure, apply as applyByModel, kindOf } from '../../client/test/support/model.js';
+import { choices } from './random.js';
 
 const [server, cases = '2000', seed = '1'] = process.argv.slice(2);
 const MOST_SHOWN = 5; // differences that are printed
@@ -93,10 +94,10 @@ function randomOperation(data, most) {
     const component = randomComponent(data);
     if (component.si === '' || component.sd === '') continue;
     try {
-      data = apply(data, [component]);
+      data = applyByModel(data, [component]);
       operation.push(component);
-    } catch {
-      continue;
+    } catch (error) {
+      if (!(error instanceof Failure)) throw error;
     }
   }
   return { operation, data };
@@ -131,8 +132,9 @@ function expected({ stored, present, arriving }) {
   try {
     const form = stored.reduce((left, right) => cross(left, right).left, arriving);
     return { stored: form, data: apply(present, form) };
-  } catch (refusal) {
-    return { code: refusal.code, data: present };
+  } catch (error) {
+    if (!(error instanceof Refusal)) throw error;
+    return { code: error.code, data: present };
   }
 }
 
@@ -162,7 +164,11 @@ function main() {
   const byDocument = answersByDocument(run.stdout);
   let differences = 0;
   let refusals = 0;
+  const pairs = new Set();
   for (const one of made) {
+    for (const component of one.arriving) {
+      for (const other of one.stored.flat()) pairs.add(`${kindOf(component)} ${kindOf(other)}`);
+    }
     const wanted = expected(one);
     const got = answered(byDocument.get(one.id), one);
     if (wanted.code) refusals += 1;
@@ -170,7 +176,8 @@ function main() {
     differences += 1;
     if (differences <= MOST_SHOWN) console.log(`case ${one.id}: ${JSON.stringify({ ...one, wanted, got })}`);
   }
-  console.log(`agreement: ${made.length} cases, ${refusals} refused, ${differences} differ`);
+  const shapes = `${pairs.size} of 81 pairs of shapes`;
+  console.log(`agreement: ${made.length} cases, ${shapes}, ${refusals} refused, ${differences} differ`);
   process.exitCode = differences === 0 ? 0 : 1;
 }
 

@@ -3,30 +3,29 @@
  *
  *     node tests/clients/client.js ADDRESS DOCUMENT [EDITS] [CLIENTS] [SEED]
  *
- * It is examples/client.js with random edits: some one by one, some in a row without waiting, some while it is
+ * It is the client of client/src with random edits: some one by one, some in a row without waiting, some while it is
  * disconnected, some just before its connection is torn down. Once they are stored it sets a key `finished-..` in the
- * document; once CLIENTS of these keys are set, no client edits. Then it fetches the document over a new connection, and
- * the document at every fifth version that it has seen. If these differ from its copies, it prints a line that says
+ * document; once CLIENTS of these keys are set, no client edits. Then it fetches the document over a new connection,
+ * and the document at every fifth version that it has seen. If these differ from its copies, it prints a line that says
  * where, and the status is 1.
  *
  * Needs node-ws.
  */
-'use strict';
 
-const { createHash } = require('crypto');
-module.paths.push('/usr/share/nodejs'); // where Debian installs node-ws
-const WebSocket = require('ws');
-const { Client, textChange } = require('../../examples/client.js');
-const { choices } = require('./random.js');
+import { createHash } from 'node:crypto';
+import { Client, textChange } from '../../client/src/index.js';
+import { choices } from './random.js';
+import { WebSocket } from './websocket.js';
 
 const COLLECTION = 'examples';
 const NAME = 'node';
 const PATIENCE = 120000; // milliseconds without progress
 const MOST_FAULTS = 5; // that are printed
 const EVERY = 5; // one version in this number is compared at the end
-const CARDS = 8; // maximal length of a column
+const CARDS = 20; // maximal number of cards
+const ITEMS = 8; // maximal length of a list
 const TEXT = 300; // maximal length of a text
-const START = { text: '', columns: ['To do', 'Doing', 'Done'].map((name) => ({ name, cards: [] })) };
+const START = { text: '', columns: ['To do', 'Doing', 'Done'], cards: {} };
 const PIECES = ['a', 'bc', '😀', 'word ', '\n', 'é', '漢字', '🎉🎉'];
 
 // Random choices --------------------------------------------------------------------------------------------
@@ -46,28 +45,45 @@ function textEdit(path, text, most) {
 }
 
 function newCard() {
-  return { id: Math.random().toString(36).slice(2), title: 'card', done: false, votes: 0 };
+  return { column: random(3), rank: pick([...'cfilor']), title: 'card', done: false, votes: 0 };
 }
 
+// Edits a list that the page doesn't show. Its items have the form of cards.
 function listEdit(data) {
-  const column = random(data.columns.length);
-  const { cards } = data.columns[column];
-  const path = ['columns', column, 'cards'];
-  if (cards.length === 0 || (cards.length < CARDS && random(2))) {
-    return [{ p: [...path, random(cards.length + 1)], li: newCard() }];
+  if (data.items === undefined) return [{ p: ['items'], oi: [] }];
+  const { items } = data;
+  if (items.length === 0 || (items.length < ITEMS && random(2))) {
+    return [{ p: ['items', random(items.length + 1)], li: newCard() }];
   }
-  const index = random(cards.length);
-  const removed = { p: [...path, index], ld: cards[index] };
-  return [random(3) === 0 ? { ...removed, li: newCard() } : removed];
+  const index = random(items.length);
+  const removed = { p: ['items', index], ld: items[index] };
+  switch (random(4)) {
+    case 0:
+      return [{ ...removed, li: newCard() }];
+    case 1:
+      return [removed, { p: ['items', random(items.length)], li: items[index] }];
+    case 2:
+      return [removed];
+    default:
+      return cardEdit(['items', index], items[index]);
+  }
 }
 
-// Moves a card: one operation that removes it and inserts it elsewhere.
-function moveEdit(data, path, card) {
-  const column = random(data.columns.length);
-  const there = data.columns[column].cards.length - (column === path[1] ? 1 : 0);
+function addOrRemove({ cards }) {
+  const ids = Object.keys(cards);
+  if (ids.length > 0 && (ids.length >= CARDS || random(5) < 2)) {
+    const id = pick(ids);
+    return [{ p: ['cards', id], od: cards[id] }];
+  }
+  return [{ p: ['cards', `${NAME}-${random(1e9).toString(36)}`], oi: newCard() }];
+}
+
+// Moves a card: it gets another column and rank.
+function moveEdit(path, card) {
+  const { column, rank } = newCard();
   return [
-    { p: path, ld: card },
-    { p: ['columns', column, 'cards', random(there + 1)], li: card },
+    { p: [...path, 'column'], od: card.column, oi: column },
+    { p: [...path, 'rank'], od: card.rank, oi: rank },
   ];
 }
 
@@ -79,7 +95,7 @@ function keyEdit(path, place) {
   return [{ p: at, ...old, oi: pick([random(100), 'text', null, [1, 2], { deep: true }]) }];
 }
 
-function cardEdit(data, path, card) {
+function cardEdit(path, card) {
   switch (random(5)) {
     case 0:
       return [{ p: [...path, 'votes'], na: random(9) - 3 }];
@@ -90,20 +106,19 @@ function cardEdit(data, path, card) {
     case 3:
       return keyEdit(path, card);
     default:
-      return moveEdit(data, path, card);
+      return moveEdit(path, card);
   }
 }
 
 function randomEdit(data) {
-  const places = data.columns.flatMap(({ cards }, column) =>
-    cards.map((card, index) => ({ path: ['columns', column, 'cards', index], card })),
-  );
-  const kind = random(8);
+  const kind = random(9);
   if (kind < 3) return textEdit(['text'], data.text, TEXT);
   if (kind === 3) return keyEdit([], data);
-  if (kind === 4 || places.length === 0) return listEdit(data);
-  const { path, card } = pick(places);
-  return cardEdit(data, path, card);
+  if (kind === 4) return listEdit(data);
+  const ids = Object.keys(data.cards);
+  if (kind === 5 || ids.length === 0) return addOrRemove(data);
+  const id = pick(ids);
+  return cardEdit(['cards', id], data.cards[id]);
 }
 
 // The run -----------------------------------------------------------------------------------------------------

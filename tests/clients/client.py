@@ -2,7 +2,7 @@
 
     /usr/bin/python3 tests/clients/client.py ADDRESS DOCUMENT [EDITS] [CLIENTS] [SEED]
 
-It shares no code with examples/client.js and needs no transform: each edit is made at the version that the client has seen,
+It shares no code with the others and needs no transform: each edit is made at the version that the client has seen,
 and its stored form is fetched when it is acknowledged. After its edits the client sets a key `finished-..` in the document;
 once CLIENTS of these keys are set, no client edits. Then it fetches the document over a new connection, and the document at
 every fifth version that it has seen. If these differ from its copies, it prints a line that says where, and the status is 1.
@@ -22,8 +22,8 @@ NAME = "python"
 PATIENCE = 120  # seconds without a message
 MOST_FAULTS = 5  # that are printed
 EVERY = 5  # one version in this number is compared at the end
-CARDS, TEXT = 8, 300  # maximum length of a column and of a text
-START = {"text": "", "columns": [{"name": name, "cards": []} for name in ("To do", "Doing", "Done")]}
+CARDS, ITEMS, TEXT = 20, 8, 300  # maximum number of cards, and maximum length of a list and of a text
+START = {"text": "", "columns": ["To do", "Doing", "Done"], "cards": {}}
 PIECES = ["a", "bc", "😀", "word ", "\n", "é", "漢字", "🎉🎉"]
 
 
@@ -90,27 +90,37 @@ def text_edit(path, text, most):
 
 
 def new_card():
-    return {"id": f"{random.getrandbits(40):x}", "title": "card", "done": False, "votes": 0}
+    return {"column": random.randrange(3), "rank": random.choice("cfilor"), "title": "card", "done": False, "votes": 0}
 
 
+# Edits a list that the page doesn't show. Its items have the form of cards.
 def list_edit(data):
-    column = random.randrange(len(data["columns"]))
-    cards = data["columns"][column]["cards"]
-    path = ["columns", column, "cards"]
-    if not cards or (len(cards) < CARDS and random.random() < 0.5):
-        return [{"p": [*path, random.randint(0, len(cards))], "li": new_card()}]
-    index = random.randrange(len(cards))
-    removed = {"p": [*path, index], "ld": cards[index]}
-    if random.random() < 0.3:
+    if "items" not in data:
+        return [{"p": ["items"], "oi": []}]
+    items = data["items"]
+    if not items or (len(items) < ITEMS and random.random() < 0.5):
+        return [{"p": ["items", random.randint(0, len(items))], "li": new_card()}]
+    index = random.randrange(len(items))
+    removed = {"p": ["items", index], "ld": items[index]}
+    kind = random.random()
+    if kind < 0.3:
         return [{**removed, "li": new_card()}]
-    return [removed]
+    if kind < 0.6:
+        return [removed, {"p": ["items", random.randrange(len(items))], "li": items[index]}]
+    return [removed] if kind < 0.8 else card_edit(["items", index], items[index])
 
 
-# Moves a card: one operation that removes it and inserts it elsewhere.
-def move_edit(data, path, card):
-    column = random.randrange(len(data["columns"]))
-    there = len(data["columns"][column]["cards"]) - (column == path[1])
-    return [{"p": path, "ld": card}, {"p": ["columns", column, "cards", random.randint(0, there)], "li": card}]
+def add_or_remove(data):
+    if data["cards"] and (len(data["cards"]) >= CARDS or random.random() < 0.4):
+        key = random.choice(list(data["cards"]))
+        return [{"p": ["cards", key], "od": data["cards"][key]}]
+    return [{"p": ["cards", f"{random.getrandbits(40):x}"], "oi": new_card()}]
+
+
+# Moves a card: it gets another column and rank.
+def move_edit(path, card):
+    new = new_card()
+    return [{"p": [*path, key], "od": card[key], "oi": new[key]} for key in ("column", "rank")]
 
 
 def key_edit(path, place):
@@ -121,7 +131,7 @@ def key_edit(path, place):
     return [{**put, "od": place[key]} if key in place else put]
 
 
-def card_edit(data, path, card):
+def card_edit(path, card):
     kind = random.randrange(5)
     if kind == 0:
         return [{"p": [*path, "votes"], "na": random.randint(-3, 5)}]
@@ -129,23 +139,21 @@ def card_edit(data, path, card):
         return [{"p": [*path, "done"], "od": card["done"], "oi": not card["done"]}]
     if kind == 2:
         return text_edit([*path, "title"], card["title"], 20)
-    return key_edit(path, card) if kind == 3 else move_edit(data, path, card)
+    return key_edit(path, card) if kind == 3 else move_edit(path, card)
 
 
 def random_edit(data):
-    places = [
-        (["columns", column, "cards", index], card)
-        for column, entry in enumerate(data["columns"])
-        for index, card in enumerate(entry["cards"])
-    ]
-    kind = random.randrange(8)
+    kind = random.randrange(9)
     if kind < 3:
         return text_edit(["text"], data["text"], TEXT)
     if kind == 3:
         return key_edit([], data)
-    if kind == 4 or not places:
+    if kind == 4:
         return list_edit(data)
-    return card_edit(data, *random.choice(places))
+    if kind == 5 or not data["cards"]:
+        return add_or_remove(data)
+    key = random.choice(list(data["cards"]))
+    return card_edit(["cards", key], data["cards"][key])
 
 
 # The client -----------------------------------------------------------------------------------------------------------

@@ -1,18 +1,17 @@
 /*
  * Clients that subscribe, unsubscribe, fetch, read versions and lose their connections, at random, while they edit a
- * document. At the end each holds the server's document, and each edit's promise was right.
+ * document. At the end each is subscribed, receives one more edit without a fetch, and holds the server's document.
+ * Each edit's promise was right.
  *
  *     node tests/clients/links.js ADDRESS [ROUNDS] [SEED]
  *
  * Needs node-ws.
  */
-'use strict';
 
-const assert = require('assert');
-module.paths.push('/usr/share/nodejs'); // where Debian installs node-ws
-const WebSocket = require('ws');
-const { Client, apply } = require('../../examples/client.js');
-const { choices } = require('./random.js');
+import assert from 'node:assert';
+import { Client, apply } from '../../client/src/index.js';
+import { choices } from './random.js';
+import { WebSocket, within } from './websocket.js';
 
 const [address, rounds = '300', seed = '1'] = process.argv.slice(2);
 const { random, pick } = choices(seed);
@@ -37,7 +36,8 @@ class Participant {
         participant.socket = this;
       }
     };
-    this.client = new Client(address, { source: `${ID}-${number}`, WebSocket: Tearable, retryDelay: 10, longestDelay: 40 });
+    const source = `${ID}-${number}`;
+    this.client = new Client(address, { source, WebSocket: Tearable, retryDelay: 10, longestDelay: 40 });
     this.take();
   }
 
@@ -93,6 +93,15 @@ class Participant {
     assert.deepStrictEqual(made, data);
   }
 
+  // Waits until a stored operation is received by the subscription.
+  received(version) {
+    return new Promise((resolve) => {
+      const look = () => this.document.version > version && resolve();
+      this.document.on('version', look);
+      look();
+    });
+  }
+
   async play() {
     await this.document.fetch();
     for (let round = 0; round < Number(rounds); round += 1) {
@@ -110,12 +119,14 @@ async function main() {
   await fresh.create([...Array(CLIENTS).fill(''), 0]);
   const participants = Array.from({ length: CLIENTS }, (_, number) => new Participant(number));
   await Promise.all(participants.map((one) => one.play()));
-  await fresh.fetch();
   const made = participants.reduce((sum, one) => sum + one.made, 0);
+  await Promise.all(participants.map((one) => one.document.subscribe()));
+  await fresh.fetch();
   assert.strictEqual(fresh.data[CLIENTS], made);
+  const { version } = await fresh.submit([{ p: [CLIENTS], na: 1 }]);
+  await Promise.all(participants.map((one) => one.received(version)));
   const entries = await fresh.operations(0);
   for (const one of participants) {
-    await one.document.fetch();
     assert.deepStrictEqual([one.document.version, one.document.data], [fresh.version, fresh.data]);
     assert.strictEqual(one.versions.length, one.made);
     const own = new Set(entries.filter(({ source }) => source === one.client.source).map(({ version }) => version));
@@ -123,7 +134,7 @@ async function main() {
     assert.strictEqual(new Set(one.versions).size, own.size);
   }
   assert.deepStrictEqual(faults, []);
-  console.log(`links: ${made} edits stored in ${fresh.version - 1} operations, all agree`);
+  console.log(`links: ${made} edits stored in ${fresh.version - 2} operations, all agree`);
 }
 
 function end(error) {
@@ -132,5 +143,4 @@ function end(error) {
   process.exit(error ? 1 : 0);
 }
 
-setTimeout(() => end(new Error('nothing more comes')), PATIENCE).unref();
-main().then(() => end(null), end);
+within(PATIENCE, main()).then(() => end(null), end);

@@ -1,13 +1,13 @@
 """The page with two clients, in headless Chromium: edits concurrently with others, and compares.
 
-    /usr/bin/python3 tests/clients/page.py ADDRESS DOCUMENT [EDITS] [CLIENTS]
+    /usr/bin/python3 tests/clients/page.py ADDRESS DOCUMENT [EDITS] [CLIENTS] [SEED]
 
 The script uses the page's fields and buttons (page_edits.js), in both views. After its edits it sets a key `finished-page`
 in the document; once CLIENTS of these keys are set, no client edits. Then it compares the document and the screen of both
 views with a fetch over a new connection, and their document at every fifth version with the server's. Before that, on other
 documents, it tests that a caret stays while the other view writes, that the page can be used by the keyboard alone, that
-nothing is outside a screen of 320 pixels, and that the client can be imported as a module. On a difference it prints a line,
-and the status is 1.
+nothing is outside a screen of 320 pixels, and that client/src can be imported as a module. On a difference it prints a
+line, and the status is 1.
 
 Needs python3-websockets and chromium.
 """
@@ -113,7 +113,10 @@ class Tab:
 
 # By keyboard ---------------------------------------------------------------------------------------------------------
 
-CARD = "views[0].shared.data.columns.map(({ cards }) => cards.findIndex(({ title }) => title === 'by keys'))"
+# `idsOf` and `views` are global names of page.js
+CARD = """(({ columns, cards }) => columns.map((_, column) =>
+    idsOf({ cards }, column).findIndex((id) => cards[id].title === 'by keys')))(views[0].shared.data)"""
+VOTES = "(({ cards }) => cards[idsOf({ cards }, 1)[0]].votes)(views[0].shared.data)"
 
 
 # Adds a card, writes it, moves it to the next column and up, votes for it and removes it; disconnects and connects a view.
@@ -130,7 +133,7 @@ async def faults_by_keys(tab, address, document):
     steps.append((await tab.evaluate(CARD), [-1, 0, -1]))
     await tab.tab_to(".vote")
     await tab.press("Enter", 13)
-    steps.append((await tab.evaluate("views[0].shared.data.columns[1].cards[0].votes"), 1))
+    steps.append((await tab.evaluate(VOTES), 1))
     await tab.press("Delete", 46, alt=True)
     steps.append((await tab.evaluate(CARD), [-1, -1, -1]))
     steps.append((await tab.evaluate("document.activeElement.matches('.card .title')"), True))
@@ -168,26 +171,31 @@ class Quiet(http.server.SimpleHTTPRequestHandler):
         pass
 
 
-MODULE = "import('/client.mjs').then(({ Client, default: api }) => api.Client === Client && api === Navirotsohy)"
+MODULE = "import('/client/src/index.js').then((api) => new api.Client('ws://x', { connect: false }).state)"
 
 
 # A browser imports modules only over HTTP.
 async def faults_of_module(tab):
-    files = http.server.ThreadingHTTPServer(("127.0.0.1", 0), functools.partial(Quiet, directory=PAGE.parent))
+    files = http.server.ThreadingHTTPServer(("127.0.0.1", 0), functools.partial(Quiet, directory=PAGE.parent.parent))
     threading.Thread(target=files.serve_forever, daemon=True).start()
     try:
-        await tab.call("Page.navigate", url=f"http://127.0.0.1:{files.server_port}/style.css")
-        while not await tab.evaluate("document.readyState === 'complete' && location.pathname === '/style.css'"):
+        await tab.call("Page.navigate", url=f"http://127.0.0.1:{files.server_port}/examples/style.css")
+        while not await tab.evaluate("document.readyState === 'complete' && location.pathname.endsWith('/style.css')"):
             await asyncio.sleep(0.05)
-        return [] if await tab.evaluate(MODULE) else ["the module gives another client"]
+        state = await tab.evaluate(MODULE)
+        return [] if state == "disconnected" else [f"the module's client is {state}"]
     finally:
         files.shutdown()
 
 
-# Returns what a view shows of a document: its text, and its columns without the ids and other members of cards.
+# Returns what a view shows of a document: its text, and its columns with the title, tick and votes of each card.
 def as_shown(data):
     members = ("title", "done", "votes")
-    columns = [{"name": c["name"], "cards": [{m: card[m] for m in members} for card in c["cards"]]} for c in data["columns"]]
+    cards = [card for _, card in sorted(data["cards"].items(), key=lambda it: f"{it[1]['rank']} {it[0]}")]
+    columns = [
+        {"name": name, "cards": [{m: card[m] for m in members} for card in cards if card["column"] == column]}
+        for column, name in enumerate(data["columns"])
+    ]
     return {"text": data["text"], "columns": columns}
 
 
@@ -201,7 +209,7 @@ def faults_of(view, version, data, before):
         yield f"shows another document: {found}"
 
 
-async def main(address, document, edits="300", clients="1"):
+async def main(address, document, edits="300", clients="1", seed="1"):
     async with browser() as tab_address, websockets.connect(tab_address, max_size=None) as socket:
         tab = Tab(socket)
         await tab.open(address, f"{document}-caret")
@@ -210,7 +218,7 @@ async def main(address, document, edits="300", clients="1"):
         faults += await faults_by_keys(tab, address, f"{document}-keys")
         faults += await faults_of_module(tab)
         await tab.open(address, document)
-        await tab.evaluate(f"pageEdits.run({int(edits)})")
+        await tab.evaluate(f"pageEdits.run({int(edits)}, {int(seed)})")
         await tab.evaluate(f"pageEdits.follow({int(clients)})")
         views = await tab.evaluate("pageEdits.results()")
     versions = sorted({int(at) for view in views for at in view["held"]})

@@ -2,16 +2,19 @@
  * Runs in the page for page.py: it edits as a user does, by the fields and buttons of both views.
  * Each edit picks a view and uses the page's own listeners.
  */
-'use strict';
-
 window.pageEdits = (() => {
+  'use strict';
+
   const EVERY = 5; // one version in this number is compared at the end
   const CARDS = 8; // maximal length of a column
   const TEXT = 300; // maximal length of a text
   const PIECES = ['a', 'bc', '😀', 'word ', '\n', 'é', '漢字', '🎉🎉'];
 
+  let state = 1; // of the random choices, which a seed determines
+
   function random(below) {
-    return Math.floor(Math.random() * below);
+    state = (Math.imul(state, 1664525) + 1013904223) >>> 0;
+    return Math.floor((state / 4294967296) * below);
   }
 
   function pick(list) {
@@ -76,7 +79,8 @@ window.pageEdits = (() => {
 
   let remembered = [];
 
-  async function run(edits) {
+  async function run(edits, seed) {
+    state = seed;
     while (!ready()) await pause(10);
     remembered = views.map(remember);
     for (let made = 0; made < edits; made += 1) {

@@ -1,8 +1,7 @@
 /* Random choices that a seed determines. */
-'use strict';
 
 /** Returns a random whole number from 0 to below the given one, or a random item of a list. */
-function choices(seed) {
+export function choices(seed) {
   let state = Number(seed);
   const random = (below) => {
     state = (Math.imul(state, 1664525) + 1013904223) >>> 0;
@@ -10,5 +9,3 @@ function choices(seed) {
   };
   return { random, pick: (list) => list[random(list.length)] };
 }
-
-module.exports = { choices };

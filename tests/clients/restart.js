@@ -4,18 +4,19 @@
  *     node tests/clients/restart.js SERVER
  *
  * One client edits without a pause and one only subscribes. A third one is disconnected until the new server's document
- * has a longer log than the old one had. Each must emit `restarted` once, with the stored document, and end with the new
- * server's document. No edit of the old document may be stored in the new one.
+ * has a longer log than the old one had. Each must emit `restarted` once, with the stored document, and end with the
+ * new server's document. No edit of the old document may be stored in the new one.
+ *
+ * At the end the server is killed again, and a new one gets the stored operations from a list of them, each with its
+ * source, number and version. Then no client may emit `restarted`, and an edit made meanwhile is stored.
  *
  * Needs node-ws.
  */
-'use strict';
 
-const assert = require('assert');
-const { spawn } = require('child_process');
-module.paths.push('/usr/share/nodejs'); // where Debian installs node-ws
-const WebSocket = require('ws');
-const { Client } = require('../../examples/client.js');
+import assert from 'node:assert';
+import { spawn } from 'node:child_process';
+import { Client } from '../../client/src/index.js';
+import { WebSocket, within } from './websocket.js';
 
 const [server] = process.argv.slice(2);
 const PATIENCE = 60000; // milliseconds for the whole run
@@ -107,10 +108,42 @@ async function main() {
     assert.deepStrictEqual([document.version, document.data, document.pending, told.length], [6, fresh, 0, 1]);
   }
   assert.deepStrictEqual(await reader.document.snapshot(), { version: 6, data: fresh });
-  console.log(`restart: ${outcomes.stored} edits stored, ${outcomes.lost} told to be lost, all clients say so and go on`);
+  await restored(address, [writer, reader, away]);
+  console.log(`restart: ${outcomes.stored} edits stored, ${outcomes.lost} lost, and each client has reported it`);
 }
 
-setTimeout(() => end(new Error('nothing more comes')), PATIENCE).unref();
+// The server is killed and gets its operations again: no client is to report a loss.
+async function restored(address, all) {
+  const [writer] = all;
+  const entries = await writer.document.operations(0);
+  for (const { client } of all) client.disconnect();
+  const edit = writer.document.submit([{ p: ['list', 0], li: 'later' }]);
+  await killed();
+  await started(address);
+  const restoring = new WebSocket(`ws://${address}`);
+  await new Promise((resolve, reject) => {
+    let answers = 0;
+    restoring.on('error', reject);
+    restoring.on('open', () => {
+      for (const { version, source, ...content } of entries) {
+        restoring.send(JSON.stringify({ a: 'op', c: 'restart', d: '1', v: version, src: source, ...content }));
+      }
+    });
+    restoring.on('message', (text) => {
+      const message = JSON.parse(text);
+      if (message.error) reject(new Error(message.error.code));
+      answers += message.a === 'op' ? 1 : 0;
+      if (answers === entries.length) resolve();
+    });
+  });
+  restoring.terminate();
+  for (const { client } of all) client.connect();
+  const { version } = await edit;
+  await until(() => all.every(({ document }) => document.version === version + 1));
+  for (const { document, told } of all) {
+    assert.deepStrictEqual([document.data.list.length, document.pending, told.length], [6, 0, 1]);
+  }
+}
 
 function end(error) {
   if (error) console.log(`restart: ${error.stack}`);
@@ -118,4 +151,4 @@ function end(error) {
   process.exit(error ? 1 : 0);
 }
 
-main().then(() => end(null), end);
+within(PATIENCE, main()).then(() => end(null), end);

@@ -43,3 +43,47 @@ def apply(document, component):
         place[step] = component["li"] if "li" in component else component["oi"]
     else:
         del place[step]
+
+
+# Edits of the nine shapes, of any document ----------------------------------------------------------------------------
+
+PIECES = ("a", "bc", "é", "漢字", "😀", "x😀y")
+
+
+def places(value, path=()):
+    """Yields each value inside a document with its path."""
+    yield list(path), value
+    children = value.items() if isinstance(value, dict) else enumerate(value) if isinstance(value, list) else ()
+    for step, child in children:
+        yield from places(child, (*path, step))
+
+
+def units(text):
+    return len(text.encode("utf-16-le")) // 2
+
+
+def small_value(chance):
+    return chance.choice((None, True, 7, "text", "😀", [], [1, "b"], {}, {"k": 1, "t": "ab"}))
+
+
+def any_edit(chance, document):
+    """Returns a component of one of the nine shapes that is made for the document, or None."""
+    path, value = chance.choice(list(places(document)))
+    if isinstance(value, bool) or value is None:
+        return None
+    if isinstance(value, int):
+        return {"p": path, "na": chance.randint(-3, 5)}
+    if isinstance(value, str):
+        start = chance.randrange(len(value) + 1)
+        removed = value[start : start + chance.randint(1, 4)]
+        shape = {"sd": removed} if removed and chance.random() < 0.4 else {"si": chance.choice(PIECES)}
+        return {"p": [*path, units(value[:start])], **shape}
+    if isinstance(value, list):
+        at, kind = chance.randrange(len(value) + 1), chance.random()
+        if at == len(value) or kind < 0.4:
+            return {"p": [*path, at], "li": small_value(chance)}
+        return {"p": [*path, at], "ld": value[at], **({"li": small_value(chance)} if kind < 0.6 else {})}
+    key, kind = chance.choice("abcdef"), chance.random()
+    if key not in value:
+        return {"p": [*path, key], "oi": small_value(chance)}
+    return {"p": [*path, key], "od": value[key], **({"oi": small_value(chance)} if kind < 0.5 else {})}

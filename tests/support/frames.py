@@ -8,7 +8,7 @@ import time
 
 TEXT, BINARY, CLOSE, PING, PONG = 1, 2, 8, 9, 10
 NO_STATUS = None  # of a connection that is closed without a close frame
-PATIENCE = 60  # seconds for an answer
+PATIENCE = 300  # seconds for an answer: a bound for tests that would hang
 TRY_AGAIN = 1013
 HEAD = "GET / HTTP/1.1\r\nHost: localhost\r\nUpgrade: websocket\r\nConnection: Upgrade\r\nSec-WebSocket-Version: 13\r\n"
 

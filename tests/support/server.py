@@ -23,10 +23,10 @@ def default_server():
 
 
 class Server:
-    """A server on a free port. With `dump` its standard output is its dump, which `stop` returns."""
+    """A server, on a free port if no address is given. With `dump` its standard output is its dump, which `stop` returns."""
 
-    def __init__(self, program, *options, dump=False):
-        command = [str(program), "--listen", "127.0.0.1:0", *options]
+    def __init__(self, program, *options, address="127.0.0.1:0", dump=False):
+        command = [str(program), "--listen", address, *options]
         if dump:
             command += ["--until-eof", "--dump"]
         pipes = {"stdin": subprocess.PIPE, "stdout": subprocess.PIPE, "stderr": subprocess.PIPE}

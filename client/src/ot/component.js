@@ -8,7 +8,7 @@ import { DEEPEST, LARGEST, LONGEST_PATH, MOST_COMPONENTS, isText } from '../limi
 /**
  * A value of a document: null, a boolean, a whole number, a text, a list or an object. Numbers are whole, from
  * -9007199254740991 to 9007199254740991.
- * @typedef {null | boolean | number | string | Data[] | {[key: string]: Data}} Data
+ * @typedef {null | boolean | number | string | any[] | {[key: string]: any}} Data
  */
 /**
  * Keys of objects and indices of lists. The last step of `si` and `sd` is an offset in UTF-16 units.
@@ -155,7 +155,8 @@ export function readOperation(operation) {
   if (operation.length > MOST_COMPONENTS) {
     badlyFormed(`${operation.length} components, at most ${MOST_COMPONENTS}`);
   }
-  return Array.from(operation, readComponent).filter((component) => component.si !== '' && component.sd !== '');
+  const read = /** @type {any[]} */ (Array.from(operation, readComponent));
+  return read.filter((component) => component.si !== '' && component.sd !== '');
 }
 
 /**

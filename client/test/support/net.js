@@ -9,6 +9,7 @@ export class Net {
     this.server = new Server();
     this.clock = new ManualClock();
     this.links = [];
+    this.late = []; // connections whose client has gone, while the server still reads from them
     const net = this;
     this.WebSocket = class {
       constructor() {
@@ -45,13 +46,24 @@ export class Net {
     if (link.down.length > 0 && link.onmessage) link.onmessage({ data: link.down.shift() });
   }
 
-  /** Ends a connection: what is under way is lost. */
-  cut(link) {
+  /** Ends a connection: what is under way to the client is lost, and what it has sent too, if it isn't late. */
+  cut(link, isLate = false) {
     if (!link.isOpen) return;
     link.isOpen = false;
-    this.server.close(link.session);
     this.links = this.links.filter((one) => one !== link);
+    if (isLate) this.late.push(link);
+    else this.server.close(link.session);
     if (link.onclose) link.onclose({ code: 1006 });
+  }
+
+  /** Delivers a message of a connection whose client has gone. */
+  deliverLate() {
+    const [link] = this.late;
+    if (link === undefined) return;
+    this.up(link);
+    if (link.up.length > 0) return;
+    this.server.close(link.session);
+    this.late.shift();
   }
 
   /** Delivers everything. */

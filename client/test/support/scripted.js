@@ -34,7 +34,7 @@ export function scripted() {
 
     // Sends the opening message and the answer to `hs`.
     open(number = this.number) {
-      this.answer({ a: 'init', id: `s${number}` }, { a: 'hs', id: 'me' });
+      this.answer({ a: 'init', id: `s${number}`, protocol: 1 }, { a: 'hs', id: 'me' });
     }
 
     // Returns what was sent since the last call, without `hs`.

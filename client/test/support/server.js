@@ -26,7 +26,10 @@ function checkOperation(operation) {
 
 function contentOf(message) {
   if (message.op) return { op: message.op.filter(({ si, sd }) => si !== '' && sd !== '') };
-  if (message.create) return { create: { type: TYPE, data: message.create.data === undefined ? null : message.create.data } };
+  if (message.create) {
+    const { data = null } = message.create;
+    return { create: { type: TYPE, data } };
+  }
   return { del: true };
 }
 

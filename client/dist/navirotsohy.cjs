@@ -1,0 +1,2353 @@
+/* Navirotsohy 0.1.0, MIT license. Built from client/src by client/tools/build.js: don't edit. */
+var __defProp = Object.defineProperty;
+var __getOwnPropDesc = Object.getOwnPropertyDescriptor;
+var __getOwnPropNames = Object.getOwnPropertyNames;
+var __hasOwnProp = Object.prototype.hasOwnProperty;
+var __export = (target, all) => {
+  for (var name in all)
+    __defProp(target, name, { get: all[name], enumerable: true });
+};
+var __copyProps = (to, from, except, desc) => {
+  if (from && typeof from === "object" || typeof from === "function") {
+    for (let key of __getOwnPropNames(from))
+      if (!__hasOwnProp.call(to, key) && key !== except)
+        __defProp(to, key, { get: () => from[key], enumerable: !(desc = __getOwnPropDesc(from, key)) || desc.enumerable });
+  }
+  return to;
+};
+var __toCommonJS = (mod) => __copyProps(__defProp({}, "__esModule", { value: true }), mod);
+
+// src/index.js
+var src_exports = {};
+__export(src_exports, {
+  Client: () => Client,
+  Doc: () => Doc,
+  Emitter: () => Emitter,
+  Refusal: () => Refusal,
+  apply: () => apply,
+  complete: () => complete,
+  compose: () => compose,
+  cross: () => cross,
+  invert: () => invert,
+  textChange: () => textChange,
+  transformComponent: () => transformComponent,
+  transformOffset: () => transformOffset
+});
+module.exports = __toCommonJS(src_exports);
+
+// src/emitter.js
+function report(error) {
+  const { reportError } = (
+    /** @type {any} */
+    globalThis
+  );
+  if (typeof reportError === "function")
+    reportError(error);
+  else
+    console.error(error);
+}
+var Emitter = class {
+  constructor() {
+    const state = { listeners: /* @__PURE__ */ new Map(), waiting: [], isEmitting: false };
+    Object.defineProperty(this, "_emitter", { value: () => state });
+  }
+  /**
+   * Calls the listener at each event of this name.
+   * @template {keyof Events} Name
+   * @param {Name} event
+   * @param {(detail: Events[Name]) => void} listener
+   * @param {{signal?: AbortSignal}} [options] an aborted signal removes the listener
+   * @returns {() => void} removes the listener
+   */
+  on(event, listener, options) {
+    return add(this, event, listener, false, options);
+  }
+  /**
+   * As `on`, for the next event only.
+   * @template {keyof Events} Name
+   * @param {Name} event
+   * @param {(detail: Events[Name]) => void} listener
+   * @param {{signal?: AbortSignal}} [options]
+   * @returns {() => void} removes the listener
+   */
+  once(event, listener, options) {
+    return add(this, event, listener, true, options);
+  }
+  /**
+   * Removes a listener, or without one all listeners of the event.
+   * @template {keyof Events} Name
+   * @param {Name} event
+   * @param {(detail: Events[Name]) => void} [listener]
+   */
+  off(event, listener) {
+    const { listeners } = stateOf(this);
+    listeners.set(event, recordsOf(this, event).filter((record) => listener && record.listener !== listener));
+  }
+  /**
+   * Calls the listeners of an event, after those of the events that are being emitted.
+   * @template {keyof Events} Name
+   * @param {Name} event
+   * @param {Events[Name]} detail
+   */
+  emit(event, detail) {
+    const state = stateOf(this);
+    state.waiting.push({ event, detail });
+    if (state.isEmitting)
+      return;
+    state.isEmitting = true;
+    while (state.waiting.length > 0) {
+      const next = state.waiting.shift();
+      for (const record of recordsOf(this, next.event))
+        call(this, next.event, record, next.detail);
+    }
+    state.isEmitting = false;
+  }
+};
+function stateOf(emitter) {
+  return emitter._emitter();
+}
+function recordsOf(emitter, event) {
+  return stateOf(emitter).listeners.get(event) || [];
+}
+function remove(emitter, event, removed) {
+  stateOf(emitter).listeners.set(event, recordsOf(emitter, event).filter((record) => record !== removed));
+}
+function add(emitter, event, listener, isOnce, options) {
+  const signal = options ? options.signal : void 0;
+  const record = { listener, isOnce };
+  const stop = () => {
+    remove(emitter, event, record);
+    if (signal)
+      signal.removeEventListener("abort", stop);
+  };
+  if (signal && signal.aborted)
+    return stop;
+  if (signal)
+    signal.addEventListener("abort", stop);
+  stateOf(emitter).listeners.set(event, [...recordsOf(emitter, event), Object.assign(record, { stop })]);
+  return stop;
+}
+function call(emitter, event, record, detail) {
+  if (!recordsOf(emitter, event).includes(record))
+    return;
+  if (record.isOnce)
+    record.stop();
+  try {
+    record.listener(detail);
+  } catch (error) {
+    report(error);
+  }
+}
+
+// src/errors.js
+var MESSAGES = {
+  ERR_MESSAGE_BADLY_FORMED: "message is badly formed",
+  ERR_OT_OP_BADLY_FORMED: "operation is badly formed",
+  ERR_DOC_WAS_DELETED: "document was deleted",
+  ERR_DOC_ALREADY_CREATED: "document was already created",
+  ERR_DOC_DOES_NOT_EXIST: "document does not exist",
+  ERR_OT_OP_NOT_APPLIED: "operation can not be applied",
+  ERR_CLOSED: "document is closed, or no longer subscribed to",
+  ERR_NOT_LOADED: "document is not loaded: fetch it or subscribe to it first",
+  ERR_PROTOCOL: "the other end is no server of documents",
+  ERR_SERVER_RESTARTED: "the server was restarted and has lost the document",
+  ERR_UNREACHABLE: "the server can not be reached"
+};
+var Refusal = class extends Error {
+  /**
+   * @param {Code} code
+   * @param {string} [message]
+   */
+  constructor(code, message = MESSAGES[code]) {
+    super(message);
+    this.name = "Refusal";
+    this.code = code;
+  }
+};
+function refusal(code, reason) {
+  return new Refusal(code, `${MESSAGES[code]}: ${reason}`);
+}
+function refuse(code, reason) {
+  throw reason === void 0 ? new Refusal(code) : refusal(code, reason);
+}
+function orRefusal(action, refused) {
+  try {
+    return action();
+  } catch (error) {
+    if (error instanceof Refusal)
+      return refused(error);
+    throw error;
+  }
+}
+function spelled(value) {
+  let text;
+  try {
+    text = JSON.stringify(value);
+  } catch {
+    text = void 0;
+  }
+  if (text === void 0 || typeof value === "number")
+    text = String(value);
+  return text.length > 60 ? `${text.slice(0, 57)}...` : text;
+}
+
+// src/limits.js
+var TYPE = "http://sharejs.org/types/JSONv0";
+var LARGEST = Number.MAX_SAFE_INTEGER;
+var LONGEST_MESSAGE = 1048576;
+var LONGEST_NAME = 200;
+var LONGEST_PATH = 50;
+var MOST_COMPONENTS = 256;
+var DEEPEST = 50;
+var MOST_COMPOSED = 64;
+var LONGEST_COMPOSED = 65536;
+function bytesOf(text) {
+  return new TextEncoder().encode(text).length;
+}
+function isText(value) {
+  return typeof value === "string" && !/[\ud800-\udfff]/u.test(value);
+}
+function isName(value) {
+  return isText(value) && value !== "" && bytesOf(value) <= LONGEST_NAME;
+}
+function isSendable(text) {
+  return text.length * 3 <= LONGEST_MESSAGE || bytesOf(text) <= LONGEST_MESSAGE;
+}
+
+// src/ot/component.js
+var LEFT = "left";
+var RIGHT = "right";
+var FOREIGN = ["lm", "o", "t"];
+var MEMBERS = ["ld", "li", "na", "od", "oi", "sd", "si"];
+var SHAPES = { na: "na", si: "si", sd: "sd", li: "li", ld: "ld", ldli: "lr", oi: "oi", od: "od", odoi: "or" };
+var KEYED = /* @__PURE__ */ new Set(["oi", "od", "or"]);
+var REMOVING = /* @__PURE__ */ new Set(["ld", "lr", "od", "or"]);
+function has(object, key) {
+  return Object.prototype.hasOwnProperty.call(object, key);
+}
+function isObject(value) {
+  return value !== null && typeof value === "object" && !Array.isArray(value);
+}
+function notApplied(reason) {
+  return refuse("ERR_OT_OP_NOT_APPLIED", reason);
+}
+function badlyFormed(reason) {
+  return refuse("ERR_OT_OP_BADLY_FORMED", reason);
+}
+function shapeOf(component) {
+  let members = "";
+  for (const member of MEMBERS)
+    if (has(component, member))
+      members += member;
+  return has(SHAPES, members) ? SHAPES[members] : badlyFormed(`${spelled(component)} has no known members`);
+}
+function containerDepth(component, shape) {
+  return shape === "na" ? component.p.length : component.p.length - 1;
+}
+function withStep(component, depth, step) {
+  if (step > LARGEST)
+    notApplied(`the index ${step} is too large`);
+  const path = component.p.slice();
+  path[depth] = step;
+  return { ...component, p: path };
+}
+function withLastStep(component, step) {
+  return withStep(component, component.p.length - 1, step);
+}
+function isStep(step) {
+  return isText(step) || Number.isSafeInteger(step) && step >= 0;
+}
+function readPath(path, place) {
+  if (!Array.isArray(path))
+    badlyFormed(`${place} has no path p`);
+  if (path.length > LONGEST_PATH)
+    badlyFormed(`${place}: the path has ${path.length} steps, at most ${LONGEST_PATH}`);
+  const wrong = path.find((step) => !isStep(step));
+  if (wrong !== void 0 || path.includes(void 0))
+    badlyFormed(`${place}: ${spelled(wrong)} is no step of a path`);
+  return path.slice();
+}
+function readComponent(component, at) {
+  const place = `component ${at}`;
+  if (!isObject(component))
+    badlyFormed(`${place} is ${spelled(component)}, and no object`);
+  const foreign = FOREIGN.find((member) => has(component, member));
+  if (foreign)
+    badlyFormed(`${place}: the member ${foreign} isn't supported`);
+  const shape = shapeOf(component);
+  const read = { p: readPath(component.p, place) };
+  const last = read.p[containerDepth(component, shape)];
+  const wanted = KEYED.has(shape) ? "string" : "number";
+  if (shape !== "na" && typeof last !== wanted) {
+    badlyFormed(`${place}: ${last === void 0 ? "an empty path" : `the last step ${spelled(last)}`} is no ${wanted === "string" ? "key" : "index"}`);
+  }
+  for (const member of MEMBERS) {
+    if (has(component, member))
+      read[member] = readMember(member, component[member], `${place}, ${member}`);
+  }
+  return read;
+}
+function readMember(member, value, place) {
+  if (member === "na")
+    return readNumber(value, place);
+  if (member !== "si" && member !== "sd")
+    return readData(value, place);
+  return isText(value) ? value : badlyFormed(`${place}: ${spelled(value)} is no text of whole characters`);
+}
+function readNumber(value, place) {
+  if (Number.isSafeInteger(value))
+    return value + 0;
+  return badlyFormed(`${place}: ${spelled(value)} is no whole number up to ${LARGEST}`);
+}
+function isPlain(value) {
+  const prototype = Object.getPrototypeOf(value);
+  return prototype === null || Object.getPrototypeOf(prototype) === null;
+}
+function readData(value, place = "the data", room = DEEPEST) {
+  if (value === null || typeof value === "boolean" || isText(value))
+    return (
+      /** @type {Data} */
+      value
+    );
+  if (typeof value === "number")
+    return readNumber(value, place);
+  if (typeof value === "string")
+    return badlyFormed(`${place}: a text has half a surrogate pair`);
+  if (typeof value !== "object")
+    return badlyFormed(`${place} is ${spelled(value)}, and no JSON`);
+  if (room === 0)
+    return badlyFormed(`${place} is more than ${DEEPEST} levels deep`);
+  if (Array.isArray(value))
+    return Array.from(value, (item, at) => readData(item, `${place}[${at}]`, room - 1));
+  if (!isPlain(value))
+    return badlyFormed(`${place} is of the class ${value.constructor.name}, and no plain object`);
+  const wrong = Object.keys(value).find((key) => !isText(key));
+  if (wrong !== void 0)
+    return badlyFormed(`${place}: a key has half a surrogate pair`);
+  const read = (key) => [key, readData(value[key], `${place}.${key}`, room - 1)];
+  return Object.fromEntries(Object.keys(value).map(read));
+}
+function readOperation(operation) {
+  if (!Array.isArray(operation))
+    return badlyFormed(`${spelled(operation)} is no list of components`);
+  if (operation.length > MOST_COMPONENTS) {
+    badlyFormed(`${operation.length} components, at most ${MOST_COMPONENTS}`);
+  }
+  const read = (
+    /** @type {any[]} */
+    Array.from(operation, readComponent)
+  );
+  return read.filter((component) => component.si !== "" && component.sd !== "");
+}
+function isShallow(value, room = DEEPEST) {
+  if (value === null || typeof value !== "object")
+    return true;
+  return room > 0 && Object.keys(value).every((key) => isShallow(value[key], room - 1));
+}
+function isSame(data, other) {
+  if (data === other)
+    return true;
+  if (!data || !other || typeof data !== "object" || typeof other !== "object")
+    return false;
+  const keys = Object.keys(data);
+  if (Array.isArray(data) !== Array.isArray(other) || keys.length !== Object.keys(other).length)
+    return false;
+  return keys.every((key) => has(other, key) && isSame(data[key], other[key]));
+}
+
+// src/ot/halves.js
+function isHighHalf(unit) {
+  return unit >= 55296 && unit < 56320;
+}
+function isLowHalf(unit) {
+  return unit >= 56320 && unit < 57344;
+}
+function isInsidePair(text, offset) {
+  return isHighHalf(text.charCodeAt(offset - 1)) && isLowHalf(text.charCodeAt(offset));
+}
+
+// src/ot/apply.js
+function checkOffset(text, offset) {
+  if (typeof text !== "string")
+    notApplied("there is no text");
+  if (offset > text.length)
+    notApplied(`the offset ${offset} exceeds the text's length ${text.length}`);
+  if (isInsidePair(text, offset))
+    notApplied(`the offset ${offset} is inside a surrogate pair`);
+}
+function checkItem(list, index, limit) {
+  if (!Array.isArray(list))
+    notApplied("there is no list");
+  if (index >= limit)
+    notApplied(`the index ${index} exceeds the list's length ${list.length}`);
+}
+function checkObject(object) {
+  if (!isObject(object))
+    notApplied("there is no object");
+}
+function withItem(list, index, value) {
+  const copy = list.slice();
+  copy[index] = value;
+  return copy;
+}
+function withMember(object, key, value) {
+  return { ...object, [key]: value };
+}
+function addNumber(number, { na }) {
+  if (typeof number !== "number")
+    notApplied("there is no number");
+  const sum = number + na;
+  return Math.abs(sum) <= LARGEST ? sum : notApplied(`the sum of ${number} and ${na} is too large`);
+}
+function insertText(text, { si }, offset) {
+  checkOffset(text, offset);
+  return text.slice(0, offset) + si + text.slice(offset);
+}
+function deleteText(text, { sd }, offset) {
+  checkOffset(text, offset);
+  if (!text.startsWith(sd, offset))
+    notApplied(`the text at ${offset} isn't ${spelled(sd)}`);
+  return text.slice(0, offset) + text.slice(offset + sd.length);
+}
+function insertItem(list, { li }, index) {
+  checkItem(list, index, list && list.length + 1);
+  return [...list.slice(0, index), li, ...list.slice(index)];
+}
+function deleteItem(list, component, index) {
+  checkItem(list, index, list && list.length);
+  return [...list.slice(0, index), ...list.slice(index + 1)];
+}
+function replaceItem(list, { li }, index) {
+  checkItem(list, index, list && list.length);
+  return withItem(list, index, li);
+}
+function setMember(object, { oi }, key) {
+  checkObject(object);
+  return withMember(object, key, oi);
+}
+function removeMember(object, component, key) {
+  checkObject(object);
+  const copy = { ...object };
+  delete copy[key];
+  return copy;
+}
+var EFFECTS = {
+  na: addNumber,
+  si: insertText,
+  sd: deleteText,
+  li: insertItem,
+  ld: deleteItem,
+  lr: replaceItem,
+  oi: setMember,
+  od: removeMember,
+  or: setMember
+};
+function changeAt(value, path, depth, change, from = 0) {
+  if (from === depth)
+    return change(value);
+  const step = path[from];
+  if (typeof step === "number") {
+    checkItem(value, step, value && value.length);
+    return withItem(value, step, changeAt(value[step], path, depth, change, from + 1));
+  }
+  if (!isObject(value) || !has(value, step))
+    notApplied(`there is no member ${spelled(step)}`);
+  return withMember(value, step, changeAt(value[step], path, depth, change, from + 1));
+}
+function applyComponent(data, component) {
+  const shape = shapeOf(component);
+  const depth = containerDepth(component, shape);
+  try {
+    return changeAt(data, component.p, depth, (place) => EFFECTS[shape](place, component, component.p[depth]));
+  } catch (error) {
+    throw error instanceof Refusal ? new Refusal(error.code, `${error.message}, path ${spelled(component.p)}`) : error;
+  }
+}
+function valueAt(data, path, depth) {
+  let value = data;
+  for (let at = 0; at < depth; at += 1) {
+    const step = path[at];
+    if (typeof step === "number" ? !Array.isArray(value) : !isObject(value))
+      return void 0;
+    if (!has(value, step))
+      return void 0;
+    value = value[step];
+  }
+  return value;
+}
+function apply(data, operation) {
+  return operation.reduce(applyComponent, data);
+}
+
+// src/ot/invert.js
+function removable(value) {
+  return isShallow(value) ? value : null;
+}
+function completeComponent(data, component, shape) {
+  const depth = containerDepth(component, shape);
+  const place = valueAt(data, component.p, depth);
+  const last = component.p[depth];
+  if (shape === "ld" || shape === "lr") {
+    return Array.isArray(place) && has(place, last) ? { ...component, ld: removable(place[last]) } : component;
+  }
+  if (!KEYED.has(shape) || !isObject(place))
+    return component;
+  const { p, oi } = component;
+  if (has(place, last))
+    return shape === "od" ? { p, od: removable(place[last]) } : { p, od: removable(place[last]), oi };
+  return shape === "od" ? null : { p, oi };
+}
+function complete(data, operation) {
+  const completed = [];
+  let present = data;
+  for (const component of operation) {
+    const one = completeComponent(present, component, shapeOf(component));
+    if (one !== null) {
+      present = applyComponent(present, one);
+      completed.push(one);
+    }
+  }
+  return { operation: completed, data: present };
+}
+var INVERSES = {
+  na: ({ p, na }) => ({ p, na: 0 - na }),
+  si: ({ p, si }) => ({ p, sd: si }),
+  sd: ({ p, sd }) => ({ p, si: sd }),
+  li: ({ p, li }) => ({ p, ld: li }),
+  ld: ({ p }, old) => ({ p, li: old }),
+  lr: ({ p, li }, old) => ({ p, ld: li, li: old }),
+  oi: ({ p, oi }) => ({ p, od: oi }),
+  od: ({ p }, old) => ({ p, oi: old }),
+  or: ({ p, oi }, old) => ({ p, od: oi, oi: old })
+};
+function invert(operation, before) {
+  const inverse = [];
+  let present = before;
+  for (const component of operation) {
+    const one = completeComponent(present, component, shapeOf(component));
+    if (one !== null) {
+      const next = applyComponent(present, one);
+      const shape = shapeOf(one);
+      inverse.push(INVERSES[shape](one, shape === "na" ? void 0 : valueAt(present, one.p, one.p.length)));
+      present = next;
+    }
+  }
+  return inverse.reverse();
+}
+
+// src/ot/transform.js
+function shareFront(path, other, length) {
+  for (let depth = 0; depth < length; depth += 1)
+    if (path[depth] !== other[depth])
+      return false;
+  return true;
+}
+function withRemovedAfter(component, other) {
+  const member = has(component, "ld") ? "ld" : "od";
+  const inside = { ...other, p: other.p.slice(component.p.length) };
+  return orRefusal(
+    () => ({ ...component, [member]: applyComponent(component[member], inside) }),
+    () => component
+  );
+}
+function transformBelow(component, other, otherShape, depth) {
+  const step = component.p[depth];
+  const at = other.p[depth];
+  if (typeof step !== typeof at)
+    return [component];
+  switch (otherShape) {
+    case "li":
+      return at <= step ? [withStep(component, depth, step + 1)] : [component];
+    case "ld":
+      if (step === at)
+        return [];
+      return step > at ? [withStep(component, depth, step - 1)] : [component];
+    case "lr":
+    case "od":
+    case "or":
+      return step === at ? [] : [component];
+    default:
+      return [component];
+  }
+}
+function insertAfterInserted(component, other, step, at, side) {
+  const isAfter = step > at || step === at && side === RIGHT;
+  return [isAfter ? withLastStep(component, step + 1) : component];
+}
+function itemAfterInserted(component, other, step, at) {
+  return [at <= step ? withLastStep(component, step + 1) : component];
+}
+function insertAfterDeleted(component, other, step, at) {
+  return [step > at ? withLastStep(component, step - 1) : component];
+}
+function deleteAfterDeleted(component, other, step, at) {
+  return step === at ? [] : insertAfterDeleted(component, other, step, at);
+}
+function replaceAfterDeleted(component, other, step, at) {
+  if (step === at)
+    return [{ p: component.p, li: component.li }];
+  return insertAfterDeleted(component, other, step, at);
+}
+function deleteAfterReplaced(component, other, step, at) {
+  return step === at ? [] : [component];
+}
+function replaceAfterReplaced(component, other, step, at, side) {
+  if (step !== at)
+    return [component];
+  return side === LEFT ? [{ p: component.p, ld: other.li, li: component.li }] : [];
+}
+function putAfterPut(component, other, key, otherKey, side) {
+  if (key !== otherKey)
+    return [component];
+  return side === LEFT ? [{ p: component.p, od: other.oi, oi: component.oi }] : [];
+}
+function removeAfterGone(component, other, key, otherKey) {
+  return key === otherKey ? [] : [component];
+}
+function replaceAfterRemoved(component, other, key, otherKey) {
+  return [key === otherKey ? { p: component.p, oi: component.oi } : component];
+}
+function textAfterInsert(component, other, offset, at, side) {
+  const isAfter = at < offset || at === offset && side === RIGHT;
+  return [isAfter ? withLastStep(component, offset + other.si.length) : component];
+}
+function textAfterDelete(component, other, offset, at) {
+  if (offset <= at)
+    return [component];
+  return [withLastStep(component, Math.max(at, offset - other.sd.length))];
+}
+function cut(text, from, to) {
+  for (const offset of [from, to]) {
+    if (isInsidePair(text, offset))
+      notApplied(`${spelled(text)} would be cut inside a surrogate pair`);
+  }
+  return text.slice(from, to);
+}
+function deleteAfterInsert(component, other, offset, at) {
+  const text = component.sd;
+  if (at <= offset)
+    return [withLastStep(component, offset + other.si.length)];
+  if (at >= offset + text.length)
+    return [component];
+  const front = { ...component, sd: cut(text, 0, at - offset) };
+  const rest = { ...component, sd: cut(text, at - offset, text.length) };
+  return [front, withLastStep(rest, offset + other.si.length)];
+}
+function deleteAfterDelete(component, other, offset, at) {
+  const text = component.sd;
+  const otherEnd = at + other.sd.length;
+  if (offset >= otherEnd)
+    return [withLastStep(component, offset - other.sd.length)];
+  if (offset + text.length <= at)
+    return [component];
+  const before = at > offset ? cut(text, 0, at - offset) : "";
+  const after = offset + text.length > otherEnd ? cut(text, otherEnd - offset, text.length) : "";
+  const left = before + after;
+  return left === "" ? [] : [withLastStep({ ...component, sd: left }, Math.min(offset, at))];
+}
+var BESIDE = {
+  li: { li: insertAfterInserted, ld: itemAfterInserted, lr: itemAfterInserted },
+  ld: { li: insertAfterDeleted, ld: deleteAfterDeleted, lr: replaceAfterDeleted },
+  lr: { ld: deleteAfterReplaced, lr: replaceAfterReplaced },
+  oi: { oi: putAfterPut, or: putAfterPut },
+  od: { od: removeAfterGone, or: replaceAfterRemoved },
+  or: { oi: putAfterPut, or: putAfterPut, od: removeAfterGone },
+  si: { si: textAfterInsert, sd: deleteAfterInsert },
+  sd: { si: textAfterDelete, sd: deleteAfterDelete },
+  na: {}
+};
+function transformComponent(component, other, side) {
+  const shape = shapeOf(component);
+  const otherShape = shapeOf(other);
+  const depth = containerDepth(component, shape);
+  const otherDepth = containerDepth(other, otherShape);
+  if (REMOVING.has(shape) && otherDepth > depth && shareFront(component.p, other.p, depth + 1)) {
+    return [withRemovedAfter(component, other)];
+  }
+  if (depth < otherDepth || !shareFront(component.p, other.p, otherDepth))
+    return [component];
+  if (depth > otherDepth)
+    return transformBelow(component, other, otherShape, otherDepth);
+  const rule = BESIDE[otherShape][shape];
+  return rule ? rule(component, other, component.p[depth], other.p[depth], side) : [component];
+}
+function crossOne(left, right) {
+  if (right.length !== 1)
+    return cross([left], right);
+  return {
+    left: transformComponent(left, right[0], LEFT),
+    right: transformComponent(right[0], left, RIGHT)
+  };
+}
+function crossRow(left, component) {
+  const crossed = [];
+  let right = [component];
+  for (const one of left) {
+    if (right.length === 0) {
+      crossed.push(one);
+    } else {
+      const both = crossOne(one, right);
+      crossed.push(...both.left);
+      right = both.right;
+    }
+  }
+  return { left: crossed, right };
+}
+function cross(left, right) {
+  let rest = left;
+  const crossed = [];
+  for (const component of right) {
+    const both = crossRow(rest, component);
+    rest = both.left;
+    crossed.push(...both.right);
+  }
+  return { left: rest, right: crossed };
+}
+
+// src/content.js
+function applyContent(data, content) {
+  if (content.del)
+    return void 0;
+  if (content.create)
+    return data === void 0 ? content.create.data : refuse("ERR_DOC_ALREADY_CREATED");
+  return data === void 0 ? refuse("ERR_DOC_DOES_NOT_EXIST") : apply(data, content.op);
+}
+function crossContents(own, stored) {
+  if (stored.create)
+    return refuse("ERR_DOC_ALREADY_CREATED");
+  if (own.del)
+    return { own, stored: null };
+  if (stored.del)
+    return refuse("ERR_DOC_WAS_DELETED");
+  if (own.create)
+    return refuse("ERR_DOC_ALREADY_CREATED");
+  const crossed = cross(own.op, stored.op);
+  return { own: { op: crossed.left }, stored: { op: crossed.right } };
+}
+function isComplete(data, { op }) {
+  if (!op || data === void 0)
+    return true;
+  const completed = complete(data, op).operation;
+  return completed.length === op.length && completed.every((one, at) => shapeOf(one) === shapeOf(op[at]));
+}
+function lengthOf(operation) {
+  return JSON.stringify(operation).length;
+}
+function isComposable(components, length) {
+  return components <= MOST_COMPOSED && length <= LONGEST_COMPOSED;
+}
+
+// src/ot/compose.js
+function mergeNumbers(last, next) {
+  const sum = last.na + next.na;
+  return Math.abs(sum) <= LARGEST ? [{ p: last.p, na: sum }] : null;
+}
+function mergeInserts(last, next, at, offset) {
+  if (offset < at || offset > at + last.si.length)
+    return null;
+  return [{ p: last.p, si: insertText(last.si, next, offset - at) }];
+}
+function mergeDeletes(last, next, at, offset) {
+  if (offset === at)
+    return [{ p: last.p, sd: last.sd + next.sd }];
+  return offset + next.sd.length === at ? [{ p: next.p, sd: next.sd + last.sd }] : null;
+}
+function mergeInsertDelete(last, next, at, offset) {
+  if (offset < at || offset + next.sd.length > at + last.si.length)
+    return null;
+  const left = deleteText(last.si, next, offset - at);
+  return left === "" ? [] : [{ p: last.p, si: left }];
+}
+var MERGES = {
+  na: { na: mergeNumbers },
+  si: { si: mergeInserts, sd: mergeInsertDelete },
+  sd: { sd: mergeDeletes }
+};
+function merge(last, next) {
+  const shape = shapeOf(last);
+  const nextShape = shapeOf(next);
+  const rule = MERGES[shape] && MERGES[shape][nextShape];
+  const depth = containerDepth(last, shape);
+  if (!rule || depth !== containerDepth(next, nextShape) || !shareFront(last.p, next.p, depth))
+    return null;
+  return rule(last, next, last.p[depth], next.p[depth]);
+}
+function compose(first, second) {
+  const composed = first.slice();
+  for (const component of second) {
+    const last = composed.pop();
+    const merged = last === void 0 ? [component] : merge(last, component) || [last, component];
+    composed.push(...merged);
+  }
+  return composed;
+}
+
+// src/parts.js
+function sizeOf(component) {
+  return bytesOf(JSON.stringify(component)) + 1;
+}
+function withoutRemoved(component) {
+  return { ...component, [has(component, "ld") ? "ld" : "od"]: null };
+}
+function withFittingRemoved(component, room) {
+  if (!REMOVING.has(shapeOf(component)))
+    return component;
+  const isFitting = isShallow(has(component, "ld") ? component.ld : component.od) && sizeOf(component) <= room;
+  return isFitting ? component : withoutRemoved(component);
+}
+function middleOf(text) {
+  const middle = text.length >> 1;
+  return isInsidePair(text, middle) ? middle + 1 : middle;
+}
+function halved(component) {
+  const member = has(component, "si") ? "si" : "sd";
+  const text = component[member];
+  const middle = middleOf(text);
+  const rest = { ...component, [member]: text.slice(middle) };
+  const at = component.p[component.p.length - 1];
+  return [{ ...component, [member]: text.slice(0, middle) }, member === "si" ? withLastStep(rest, at + middle) : rest];
+}
+function shortened(component, room) {
+  const fitting = withFittingRemoved(component, room);
+  const isHalvable = has(fitting, "si") || has(fitting, "sd");
+  if (!isHalvable || sizeOf(fitting) <= room)
+    return [fitting];
+  return halved(fitting).flatMap((half) => shortened(half, room));
+}
+function firstPart(operation, room) {
+  const whole = operation.flatMap((component) => shortened(component, room));
+  let size = 0;
+  let length = 0;
+  while (length < Math.min(whole.length, MOST_COMPONENTS)) {
+    size += sizeOf(whole[length]);
+    if (size > room && length > 0)
+      break;
+    length += 1;
+  }
+  return { part: whole.slice(0, length), rest: whole.slice(length) };
+}
+function withShortRemoved(operation, room) {
+  if (bytesOf(JSON.stringify(operation)) <= room)
+    return operation;
+  return (
+    /** @type {any} */
+    operation.map((one) => REMOVING.has(shapeOf(one)) ? withoutRemoved(one) : one)
+  );
+}
+
+// src/machine.js
+var NEWER = "ERR_OP_VERSION_NEWER_THAN_CURRENT_SNAPSHOT";
+var BEGINNING = /* @__PURE__ */ new Set(["loading", "verifying", "catching up"]);
+var Machine = class {
+  /** @param {{collection: string, id: string, source: string, nextNumber: () => number, now: () => number}} settings */
+  constructor({ collection, id, source, nextNumber, now }) {
+    this.address = { c: collection, d: id };
+    this.source = source;
+    this.nextNumber = nextNumber;
+    this.now = now;
+    this.room = LONGEST_MESSAGE - bytesOf(this.textOf({ op: [] }, Number.MAX_SAFE_INTEGER, Number.MAX_SAFE_INTEGER));
+    this.state = "offline";
+    this.version = null;
+    this.confirmed = void 0;
+    this.data = void 0;
+    this.last = null;
+    this.inFlight = null;
+    this.queue = [];
+    this.arrived = /* @__PURE__ */ new Map();
+    this.fetched = null;
+    this.wanted = false;
+    this.followed = false;
+    this.requests = [];
+    this.delayed = [];
+    this.isComparing = false;
+    this.fetchers = [];
+    this.subscribers = [];
+    this.leavers = [];
+    this.conditions = [];
+    this.out = null;
+  }
+  /**
+   * @param {{type: string, [member: string]: any}} input
+   * @returns {Transition}
+   * @throws {Refusal} for an edit that is refused here; nothing is changed then
+   */
+  transition(input) {
+    this.out = { messages: [], settled: [], events: [], retries: [], comparison: null };
+    INPUTS[input.type](this, input);
+    this.reconcile();
+    this.settle();
+    const { state, out } = this;
+    return { state, ...out };
+  }
+  /** The number of own contents that aren't known to be stored. */
+  get pending() {
+    return this.queue.length + (this.inFlight ? 1 : 0);
+  }
+  /** The time at which the oldest pending edit was made, or null. */
+  get pendingSince() {
+    const oldest = this.inFlight || this.queue[0];
+    return oldest ? oldest.since : null;
+  }
+  /** Whether no answer is outstanding. */
+  get isQuiet() {
+    return this.requests.length === 0 && this.delayed.length === 0 && !this.isComparing;
+  }
+  /** Whether nothing is outstanding that could change the document. */
+  get isSettled() {
+    return this.state === "live" && this.pending === 0 && this.isQuiet && this.fetched === null && !this.arrived.size;
+  }
+  // Effects ------------------------------------------------------------------------------------------------------
+  emit(name, detail) {
+    this.out.events.push([name, detail]);
+  }
+  resolve(waiters, value) {
+    for (const { resolve } of waiters)
+      this.out.settled.push(() => resolve(value));
+  }
+  reject(waiters, error) {
+    for (const { reject } of waiters)
+      this.out.settled.push(() => reject(error));
+  }
+  send(message) {
+    this.out.messages.push(JSON.stringify({ ...message, ...this.address }));
+  }
+  // Requests -----------------------------------------------------------------------------------------------------
+  request(kind, from, purpose) {
+    const request = { kind, from, purpose, waiters: [], listed: [] };
+    if (purpose !== "check")
+      request.waiters.push(...this.fetchers.splice(0));
+    this.sendRequest(request);
+  }
+  sendRequest(request) {
+    request.listed = [];
+    this.requests.push(request);
+    if (request.kind === "u" || request.kind === "f" && request.from === null)
+      this.send({ a: request.kind });
+    else
+      this.send({ a: request.kind, v: request.from });
+  }
+  // Requests the operations from a version on, or the document, and all future operations if a subscription is wanted.
+  ask(from, purpose) {
+    this.request(this.wanted ? "s" : "f", from, purpose);
+  }
+  takeRequest(kind) {
+    const at = this.requests.findIndex((request) => request.kind === kind);
+    return at < 0 ? null : this.requests.splice(at, 1)[0];
+  }
+  // Whether the server has a subscription once it has answered the requests that were sent.
+  get willFollow() {
+    const changing = this.requests.filter(({ kind }) => kind !== "f");
+    return changing.length === 0 ? this.followed : changing[changing.length - 1].kind === "s";
+  }
+  // Whether a subscription, or its end, is to be requested.
+  get isToChange() {
+    const kind = this.wanted ? "s" : "u";
+    return this.wanted !== this.willFollow && !this.delayed.some((request) => request.kind === kind);
+  }
+  // Sends what the state asks for. Each transition ends with it.
+  reconcile() {
+    if (this.state === "idle" && this.isNeeded())
+      this.begin();
+    if (this.state === "live")
+      this.advance();
+    if (this.canAdvance)
+      return;
+    if (!this.wanted && this.isToChange) {
+      const leave = { kind: "u", from: null, purpose: "leave", waiters: this.leavers.splice(0), listed: [] };
+      this.sendRequest(leave);
+    }
+    if (this.state !== "live")
+      return;
+    if (this.wanted && this.isToChange)
+      this.ask(this.version, "catch up");
+    if (this.fetchers.length > 0)
+      this.request("f", this.version, "catch up");
+    if (this.isMissing())
+      this.ask(this.version, "catch up");
+    this.sendNext();
+  }
+  isNeeded() {
+    return this.wanted || this.pending > 0 || this.fetchers.length > 0 || this.conditions.some(({ begins }) => begins);
+  }
+  // Loads the document, or checks that the server has the log that was seen and requests what was stored meanwhile. If
+  // no operation was seen, the documents themselves are compared.
+  begin() {
+    if (this.version === null) {
+      this.load();
+    } else if (this.version === 0) {
+      this.catchUp();
+    } else {
+      this.state = "verifying";
+      if (this.last !== null) {
+        this.ask(this.version - 1, "verify");
+      } else {
+        this.isComparing = true;
+        this.out.comparison = this.version;
+      }
+    }
+  }
+  load() {
+    this.state = "loading";
+    this.ask(null, "load");
+  }
+  catchUp() {
+    this.state = "catching up";
+    this.ask(this.version, "catch up");
+  }
+  // Whether an operation is missing that the server doesn't send by itself.
+  isMissing() {
+    if ([...this.requests, ...this.delayed].some(({ purpose }) => purpose === "catch up"))
+      return false;
+    const isAwaited = this.inFlight !== null && this.inFlight.sent && this.inFlight.answered === null;
+    return this.arrived.size > 0 ? !isAwaited : this.fetched !== null && !this.followed;
+  }
+  // Settles the promises whose conditions hold.
+  settle() {
+    this.resolve(this.leavers.splice(0));
+    if (this.state === "live" && this.followed && !this.requests.some(({ kind }) => kind !== "f"))
+      this.resolve(this.subscribers.splice(0));
+    const ready = this.conditions.filter(({ holds }) => holds(this));
+    this.conditions = this.conditions.filter((one) => !ready.includes(one));
+    this.resolve(ready.map(({ waiter }) => waiter));
+  }
+  // Answers ------------------------------------------------------------------------------------------------------
+  receiveAnswer(message) {
+    const request = this.takeRequest(message.a);
+    if (request === null)
+      return;
+    if (request.kind !== "f")
+      this.followed = request.kind === "s";
+    const isWhole = request.kind !== "u" && request.from === null;
+    if (isWhole !== Boolean(message.data)) {
+      this.reject(request.waiters, new Refusal("ERR_PROTOCOL"));
+      this.refuseDocument(new Refusal("ERR_PROTOCOL"));
+    } else if (request.purpose === "list") {
+      this.resolve(request.waiters, listedFrom(request.listed, request.from));
+    } else if (request.purpose === "leave") {
+      this.resolve(request.waiters);
+    } else if (isWhole) {
+      this.receiveSnapshot(request, message.data);
+    } else if (request.purpose === "verify" && !this.isVerified(request)) {
+      this.fetchers.push(...request.waiters);
+      this.restart();
+    } else {
+      this.receiveEnd(request);
+    }
+  }
+  receiveSnapshot(request, snapshot) {
+    if (request.purpose === "check") {
+      if (this.version !== null)
+        this.fetched = { version: snapshot.v, data: dataOf(snapshot) };
+      return;
+    }
+    const before = this.data;
+    this.version = snapshot.v;
+    for (const version of this.arrived.keys())
+      if (version < snapshot.v)
+        this.arrived.delete(version);
+    this.confirmed = dataOf(snapshot);
+    this.data = this.confirmed;
+    this.state = "live";
+    this.emitWhole(before);
+    this.emit("load", { version: this.version });
+    this.resolve(request.waiters);
+  }
+  isVerified({ listed, from }) {
+    const entry = listed.find(({ version }) => version === from);
+    return entry !== void 0 && entry.source === this.last.source && entry.seq === this.last.seq;
+  }
+  // The operations from a version on have been received.
+  receiveEnd(request) {
+    this.resolve(request.waiters);
+    if (BEGINNING.has(this.state))
+      this.state = "live";
+    const isStuck = this.arrived.size > 0 && !this.canAdvance && this.version === request.from;
+    if (isStuck)
+      this.heal(refusal("ERR_PROTOCOL", `the server doesn't send the operation ${this.version}`));
+  }
+  receiveCompared({ snapshot, error }) {
+    this.isComparing = false;
+    if (error && error.code !== NEWER)
+      this.refuseDocument(error);
+    else if (error || !isSame(this.confirmed, snapshot.data))
+      this.restart();
+    else
+      this.catchUp();
+  }
+  receiveError(message, error) {
+    if (message.a === "op") {
+      if (!this.isInFlight(message))
+        return;
+      if (error.code === "ERR_OUT_OF_MEMORY")
+        this.out.retries.push({ type: "retry", seq: message.seq });
+      else
+        this.refused(error);
+      return;
+    }
+    const request = this.takeRequest(message.a);
+    if (request === null)
+      return;
+    if (error.code === "ERR_OUT_OF_MEMORY") {
+      this.delayed.push(request);
+      this.out.retries.push({ type: "retry", request });
+    } else if (request.purpose === "list") {
+      this.reject(request.waiters, error);
+    } else if (error.code === NEWER) {
+      this.fetchers.push(...request.waiters);
+      this.restart();
+    } else if (request.kind === "s") {
+      this.refuseSubscription(request, error);
+    } else {
+      this.reject(request.waiters, error);
+      this.refuseDocument(error);
+    }
+  }
+  // The document can be read without a subscription, if something else needs it.
+  refuseSubscription(request, error) {
+    this.wanted = false;
+    this.reject(this.subscribers.splice(0), error);
+    this.fetchers.push(...request.waiters);
+    this.emit("error", error);
+    if (BEGINNING.has(this.state))
+      this.state = "idle";
+  }
+  refuseDocument(error) {
+    if (BEGINNING.has(this.state))
+      this.state = "refused";
+    this.reject(this.fetchers.splice(0), error);
+    this.reject(this.subscribers.splice(0), error);
+    const waiting = this.conditions.filter(({ begins }) => begins);
+    this.conditions = this.conditions.filter(({ begins }) => !begins);
+    this.reject(waiting.map(({ waiter }) => waiter), error);
+    this.emit("error", error);
+  }
+  retry({ request, seq }) {
+    if (request === void 0) {
+      if (this.inFlight && this.inFlight.seq === seq)
+        this.out.messages.push(this.inFlight.text);
+      return;
+    }
+    this.delayed = this.delayed.filter((one) => one !== request);
+    if (request.kind === "f" || request.kind === "s" === this.wanted) {
+      this.sendRequest(request);
+    } else if (request.kind === "u") {
+      this.resolve(request.waiters);
+    } else {
+      this.fetchers.push(...request.waiters);
+      if (BEGINNING.has(this.state))
+        this.state = "idle";
+    }
+  }
+  // Stored operations --------------------------------------------------------------------------------------------
+  isInFlight({ seq, src }) {
+    return this.inFlight !== null && seq === this.inFlight.seq && src === this.source;
+  }
+  // A message with a content is a stored operation, one without acknowledges the own one. An acknowledgement of a
+  // duplicate may be received before operations of smaller versions, so it is kept.
+  receiveOperation(message) {
+    const content = contentOf(message);
+    const isOwn = this.isInFlight(message);
+    const entry = { version: message.v, source: message.src, seq: message.seq, content };
+    if (content && this.requests.length > 0)
+      this.requests[0].listed.push(entry);
+    if (isOwn)
+      this.inFlight.answered = message.v;
+    if (isOwn && this.inFlight.content === null && content === null) {
+      this.storedAfterAll(message.v);
+    } else if ((content !== null || isOwn) && (this.version === null || message.v >= this.version)) {
+      if (content !== null || !this.arrived.has(message.v))
+        this.arrived.set(message.v, entry);
+    } else if (isOwn && this.version !== null) {
+      this.heal(refusal("ERR_PROTOCOL", `another operation was received as the own one ${message.v}`));
+    }
+  }
+  // The client expected a refusal, so the content itself is requested like that of others.
+  storedAfterAll(version) {
+    const { waiters, dropped } = this.inFlight;
+    this.inFlight = null;
+    this.resolve(waiters, { version });
+    this.reportDropped(dropped, new Refusal("ERR_OT_OP_NOT_APPLIED"));
+    if (this.state === "live" && version >= this.version)
+      this.ask(this.version, "catch up");
+  }
+  // Whether another stored operation is processed by the next transition: there is one for each, so that `data` is the
+  // document after the operation while its events are emitted.
+  get canAdvance() {
+    return this.state === "live" && this.arrived.has(this.version);
+  }
+  advance() {
+    if (this.canAdvance)
+      this.see(this.arrived.get(this.version));
+    if (this.state === "live" && !this.canAdvance)
+      this.useFetched();
+  }
+  see(entry) {
+    const { version, source, seq } = entry;
+    this.arrived.delete(version);
+    const own = this.isInFlight({ seq, src: source }) ? this.inFlight : null;
+    const shown = own !== null && own.content !== null;
+    const content = entry.content || own && own.content;
+    if (content === null) {
+      if (own !== null)
+        this.storedAfterAll(version);
+      else
+        this.ask(version, "catch up");
+      return;
+    }
+    const before = this.confirmed;
+    try {
+      this.confirmed = applyContent(before, content);
+    } catch (error) {
+      if (!(error instanceof Refusal))
+        throw error;
+      this.heal(error);
+      return;
+    }
+    this.version += 1;
+    this.last = { source, seq };
+    if (own !== null)
+      this.inFlight = null;
+    if (!shown)
+      this.showOther(entry, before);
+    else if (!isSame(content, own.content))
+      this.replaceData();
+    this.emit("version", { version, source, seq });
+    if (own === null)
+      return;
+    this.emit("stored", { version, source, seq });
+    this.resolve(own.waiters, { version });
+    this.reportDropped(own.dropped, new Refusal("ERR_OT_OP_NOT_APPLIED"));
+  }
+  // Transforms the pending contents against a stored one, and shows it. The first pending content that is refused is
+  // dropped with those made on it.
+  showOther({ content, source }, confirmed) {
+    const pending = this.pendingRecords();
+    const before = this.data;
+    let rest = content;
+    for (let at = 0; at < pending.length && rest !== null; at += 1) {
+      try {
+        const crossed = crossContents(pending[at].content, rest);
+        pending[at].content = crossed.own;
+        rest = crossed.stored;
+      } catch (error) {
+        if (!(error instanceof Refusal))
+          throw error;
+        const dropped = this.dropFrom(at);
+        this.replaceData();
+        this.emitLife(content, source, before);
+        this.reportDropped(dropped, error);
+        return;
+      }
+    }
+    if (pending.length > 0 && !isComplete(confirmed, content)) {
+      this.replaceData();
+      return;
+    }
+    const shown = rest || { op: [] };
+    const data = orRefusal(() => ({ value: applyContent(before, shown) }), () => null);
+    if (data === null)
+      this.replaceData();
+    else
+      this.show(data.value, shown, source, false);
+  }
+  // Replaces `data`, and emits the events of the content.
+  show(data, content, source, local) {
+    const before = this.data;
+    this.data = data;
+    const operation = content.op || null;
+    if (operation !== null && operation.length === 0)
+      return;
+    if (operation !== null)
+      this.emit("op", { operation, source, local, before, data });
+    this.emitLife(content, source, before, local);
+    this.emit("change", { operation, source, local, before, data });
+  }
+  emitLife(content, source, before, local = false) {
+    if (content.create)
+      this.emit("create", { source, local, data: this.data });
+    if (content.del && before !== void 0)
+      this.emit("remove", { source, local, data: before });
+  }
+  emitWhole(before) {
+    this.emit("change", { operation: null, source: null, local: false, before, data: this.data });
+  }
+  // Computes `data` anew. The first pending content that can't be applied is dropped with those made on it.
+  replaceData() {
+    const before = this.data;
+    this.data = this.confirmed;
+    for (const [at, { content }] of this.pendingRecords().entries()) {
+      try {
+        this.data = applyContent(this.data, content);
+      } catch (error) {
+        if (!(error instanceof Refusal))
+          throw error;
+        const dropped = this.dropFrom(at);
+        this.emitWhole(before);
+        this.reportDropped(dropped, error);
+        return;
+      }
+    }
+    this.emitWhole(before);
+  }
+  useFetched() {
+    if (this.fetched === null || this.fetched.version > this.version)
+      return;
+    const { version, data } = this.fetched;
+    this.fetched = null;
+    if (version < this.version || isSame(this.confirmed, data))
+      return;
+    this.confirmed = data;
+    this.replaceData();
+    this.emit("healed", { version });
+  }
+  // Starting anew ------------------------------------------------------------------------------------------------
+  // The server was restarted and has lost this document. Its present document is another one.
+  restart() {
+    const error = new Refusal("ERR_SERVER_RESTARTED");
+    const lost = { version: this.version, data: this.confirmed, contents: this.contents() };
+    const dropped = this.takePending();
+    this.forgetData();
+    this.reportDropped(dropped, error);
+    this.emit("restarted", lost);
+    this.load();
+  }
+  // The document here isn't the server's.
+  heal(error) {
+    const { version } = this;
+    const dropped = this.takeUnanswered();
+    this.forgetData();
+    this.reportDropped(dropped, error);
+    this.emit("healed", { version });
+    this.load();
+  }
+  forgetData() {
+    const before = this.data;
+    this.version = null;
+    this.last = null;
+    this.arrived.clear();
+    this.fetched = null;
+    this.data = this.confirmed;
+    this.emitWhole(before);
+  }
+  takePending() {
+    const { inFlight, queue } = this;
+    this.inFlight = null;
+    this.queue = [];
+    return inFlight === null ? queue : [inFlight, ...inFlight.dropped, ...queue];
+  }
+  // Takes the pending contents, but one whose answer is outstanding over this connection: its promise waits for it.
+  takeUnanswered() {
+    const { inFlight } = this;
+    if (inFlight === null || !inFlight.sent)
+      return this.takePending();
+    if (inFlight.answered === null)
+      return inFlight.content === null ? this.queue.splice(0) : this.dropFrom(0);
+    this.resolve(inFlight.waiters, { version: inFlight.answered });
+    return this.takePending().slice(1);
+  }
+  // Own contents -------------------------------------------------------------------------------------------------
+  pendingRecords() {
+    return this.inFlight && this.inFlight.content !== null ? [this.inFlight, ...this.queue] : this.queue;
+  }
+  contents() {
+    return this.pendingRecords().map(({ content }) => content);
+  }
+  checkLoaded() {
+    if (this.state === "closed")
+      refuse("ERR_CLOSED");
+    if (this.version === null)
+      refuse("ERR_NOT_LOADED");
+  }
+  submit({ content, source, waiter }) {
+    this.checkLoaded();
+    const done = content.op ? this.completed(content.op) : { content, data: applyContent(this.data, content) };
+    if (done.content.op && done.content.op.length === 0) {
+      this.resolve([waiter], { version: null });
+      return;
+    }
+    this.checkSendable(done.content);
+    this.enqueue(done.content, waiter);
+    this.show(done.data, done.content, source, true);
+  }
+  completed(operation) {
+    if (this.data === void 0)
+      refuse("ERR_DOC_DOES_NOT_EXIST");
+    const { operation: whole, data } = complete(this.data, operation);
+    return { content: { op: withShortRemoved(whole, this.room) }, data };
+  }
+  checkSendable(content) {
+    const text = this.textOf(content, Number.MAX_SAFE_INTEGER, Number.MAX_SAFE_INTEGER);
+    if (isSendable(text))
+      return;
+    const reason = `${bytesOf(text)} bytes, and the server takes at most ${LONGEST_MESSAGE}`;
+    throw refusal("ERR_MESSAGE_BADLY_FORMED", reason);
+  }
+  enqueue(content, waiter) {
+    const last = this.queue[this.queue.length - 1];
+    const length = content.op ? lengthOf(content.op) : 0;
+    const isBoth = last !== void 0 && last.content.op !== void 0 && content.op !== void 0;
+    if (!isBoth || !isComposable(last.content.op.length + content.op.length, last.length + length)) {
+      this.queue.push({ content, length, waiters: [waiter], since: this.now() });
+      return;
+    }
+    last.content = { op: compose(last.content.op, content.op) };
+    last.length += length;
+    last.waiters.push(waiter);
+    if (last.content.op.length === 0)
+      this.resolve(this.queue.pop().waiters, { version: null });
+  }
+  textOf(content, version, seq) {
+    return JSON.stringify({ a: "op", ...this.address, v: version, src: this.source, seq, ...content });
+  }
+  // At most one content is in flight. The next one is sent at the version that includes it.
+  sendNext() {
+    if (this.inFlight !== null) {
+      if (!this.inFlight.sent)
+        this.out.messages.push(this.inFlight.text);
+      this.inFlight.sent = true;
+    } else if (this.queue.length > 0) {
+      this.sendFirst(this.queue.shift());
+    }
+  }
+  // An operation that grew beyond the server's limits is sent in parts. Its promise waits for the last one.
+  sendFirst({ content, waiters, since }) {
+    const { part, rest } = content.op ? firstPart(content.op, this.room) : { part: null, rest: [] };
+    if (rest.length > 0)
+      this.queue.unshift({ content: { op: rest }, length: lengthOf(rest), waiters, since });
+    const sent = part ? { op: part } : content;
+    const seq = this.nextNumber();
+    this.inFlight = {
+      content: sent,
+      seq,
+      text: this.textOf(sent, this.version, seq),
+      sent: true,
+      answered: null,
+      // the version, if it was acknowledged
+      waiters: rest.length > 0 ? [] : waiters,
+      since,
+      lost: null,
+      // the content, if the server will refuse it
+      dropped: []
+      // the contents made on it
+    };
+    this.out.messages.push(this.inFlight.text);
+  }
+  // Drops pending contents from one on. The answer to the one in flight is outstanding, so it stays without a content.
+  // Returns those that are dropped now.
+  dropFrom(at) {
+    const sent = this.pendingRecords().length - this.queue.length;
+    if (at >= sent)
+      return this.queue.splice(at - sent);
+    Object.assign(this.inFlight, { lost: this.inFlight.content, content: null, dropped: this.queue.splice(0) });
+    return [];
+  }
+  // The operation in flight isn't stored: it is dropped, with those made on it. The document is fetched and compared.
+  refused(error) {
+    const record = this.inFlight;
+    const isKnown = record.content === null;
+    const dropped = [record, ...isKnown ? record.dropped : this.queue.splice(0)];
+    this.inFlight = null;
+    if (!isKnown)
+      this.replaceData();
+    this.reportDropped(dropped, error);
+    this.request("f", null, "check");
+  }
+  reportDropped(records, error) {
+    const contents = records.map(({ content, lost }) => content || lost);
+    for (const { waiters } of records)
+      this.reject(waiters, error);
+    const isLostCreate = error.code === "ERR_DOC_ALREADY_CREATED" && contents.every(({ create }) => create);
+    if (contents.length > 0 && !isLostCreate)
+      this.emit("refused", { error, contents });
+  }
+  // The connection -----------------------------------------------------------------------------------------------
+  connected() {
+    this.state = "idle";
+    for (const request of this.requests.splice(0))
+      this.sendRequest(request);
+  }
+  disconnected() {
+    this.state = "offline";
+    this.followed = false;
+    this.isComparing = false;
+    this.fetched = null;
+    this.arrived.clear();
+    const requests = [...this.requests, ...this.delayed];
+    this.requests = requests.filter(({ purpose }) => purpose === "list");
+    this.delayed = [];
+    for (const { kind, purpose, waiters } of requests) {
+      if (kind === "u")
+        this.resolve(waiters);
+      else if (purpose !== "list")
+        this.fetchers.push(...waiters);
+    }
+    if (this.inFlight !== null)
+      Object.assign(this.inFlight, { sent: false, answered: null });
+  }
+  // The client connects no more: what waits for an answer is refused. Edits wait for the next `connect`.
+  failed(error) {
+    const waiting = [...this.subscribers.splice(0), ...this.fetchers.splice(0)];
+    for (const { waiters } of this.requests.splice(0))
+      waiting.push(...waiters);
+    for (const { begins, waiter } of this.conditions)
+      if (begins)
+        waiting.push(waiter);
+    this.conditions = this.conditions.filter(({ begins }) => !begins);
+    this.reject(waiting, error);
+  }
+  closed(error) {
+    this.disconnected();
+    this.state = "closed";
+    this.wanted = false;
+    this.failed(error);
+    this.discard({ error });
+  }
+  // Calls --------------------------------------------------------------------------------------------------------
+  // A call begins again after a refusal of the document.
+  resume() {
+    if (this.state === "closed")
+      refuse("ERR_CLOSED");
+    if (this.state === "refused")
+      this.state = "idle";
+  }
+  fetch({ waiter }) {
+    this.resume();
+    this.fetchers.push(waiter);
+  }
+  subscribe({ waiter }) {
+    this.resume();
+    this.wanted = true;
+    this.subscribers.push(waiter);
+  }
+  unsubscribe({ waiter }) {
+    this.wanted = false;
+    this.reject(this.subscribers.splice(0), new Refusal("ERR_CLOSED"));
+    this.leavers.push(waiter);
+  }
+  list({ from, waiter }) {
+    if (this.state === "closed")
+      refuse("ERR_CLOSED");
+    const request = { kind: "f", from, purpose: "list", waiters: [waiter], listed: [] };
+    if (this.state === "offline")
+      this.requests.push(request);
+    else
+      this.sendRequest(request);
+  }
+  until({ holds, begins, waiter }) {
+    this.conditions.push({ holds, begins, waiter });
+  }
+  discard({ error }) {
+    const dropped = this.takePending();
+    if (dropped.length > 0)
+      this.replaceData();
+    this.reportDropped(dropped, error);
+  }
+  receive({ message, error }) {
+    if (error)
+      this.receiveError(message, error);
+    else if (message.a === "op")
+      this.receiveOperation(message);
+    else
+      this.receiveAnswer(message);
+  }
+};
+var INPUTS = {
+  connected: (machine) => machine.connected(),
+  disconnected: (machine) => machine.disconnected(),
+  failed: (machine, { error }) => machine.failed(error),
+  closed: (machine, { error }) => machine.closed(error),
+  message: (machine, input) => machine.receive(input),
+  compared: (machine, input) => machine.receiveCompared(input),
+  retry: (machine, input) => machine.retry(input),
+  fetch: (machine, input) => machine.fetch(input),
+  subscribe: (machine, input) => machine.subscribe(input),
+  unsubscribe: (machine, input) => machine.unsubscribe(input),
+  submit: (machine, input) => machine.submit(input),
+  list: (machine, input) => machine.list(input),
+  until: (machine, input) => machine.until(input),
+  kept: () => {
+  },
+  // only the conditions have changed
+  advance: () => {
+  },
+  // each transition processes an operation, if there is one
+  discard: (machine, input) => machine.discard(input)
+};
+function dataOf(snapshot) {
+  return has(snapshot, "data") ? snapshot.data : void 0;
+}
+function contentOf(message) {
+  if (message.op)
+    return { op: message.op };
+  if (message.create)
+    return { create: message.create };
+  return message.del ? { del: true } : null;
+}
+function listedFrom(entries, from) {
+  const start = entries.map(({ version }) => version).lastIndexOf(from);
+  if (start < 0)
+    return [];
+  return entries.slice(start).map(({ version, source, seq, content }) => ({ version, source, seq, ...content }));
+}
+
+// src/doc.js
+var PATIENCE = 2e3;
+var Doc = class extends Emitter {
+  /**
+   * @param {any} transport
+   * @param {string} collection
+   * @param {string} id
+   * @package
+   */
+  constructor(transport, collection, id) {
+    super();
+    const { source, nextNumber, clock } = transport;
+    const machine = new Machine({ collection, id, source, nextNumber, now: clock.now });
+    const core = { doc: this, transport, machine, collection, id, waiting: false, timer: null, leaving: null };
+    Object.defineProperty(this, "_doc", { value: () => core });
+  }
+  /** A collection, or the name of a projection. */
+  get collection() {
+    return coreOf(this).collection;
+  }
+  /** @returns {string} */
+  get id() {
+    return coreOf(this).id;
+  }
+  /**
+   * The state over this connection.
+   * @returns {DocState}
+   */
+  get state() {
+    return coreOf(this).machine.state;
+  }
+  /**
+   * The version seen, null before the first answer.
+   * @returns {number | null}
+   */
+  get version() {
+    return coreOf(this).machine.version;
+  }
+  /**
+   * The document with own edits: never change it. It is undefined if none exists.
+   * @returns {T | undefined}
+   */
+  get data() {
+    return coreOf(this).machine.data;
+  }
+  /**
+   * The server's document at `version`, without pending edits.
+   * @returns {T | undefined}
+   */
+  get confirmed() {
+    return coreOf(this).machine.confirmed;
+  }
+  /**
+   * The source of this client's edits.
+   * @returns {string}
+   */
+  get source() {
+    return coreOf(this).machine.source;
+  }
+  /**
+   * The number of own edits that aren't known to be stored; edits in a row count as one.
+   * @returns {number}
+   */
+  get pending() {
+    return coreOf(this).machine.pending;
+  }
+  /**
+   * Whether an edit waits for more than two seconds, with a connection or without.
+   * @returns {boolean}
+   */
+  get waiting() {
+    return coreOf(this).waiting;
+  }
+  /**
+   * Whether a subscription is wanted.
+   * @returns {boolean}
+   */
+  get wanted() {
+    return coreOf(this).machine.wanted;
+  }
+  // Reading ------------------------------------------------------------------------------------------------------
+  /**
+   * Brings the document up to date, without a subscription.
+   * @returns {Promise<this>} is fulfilled when `data` is the document at the server's version of the fetch
+   */
+  fetch() {
+    return ignorable(asked(this, { type: "fetch" }).then(() => this));
+  }
+  /**
+   * Subscribes to the document, over this connection and the next ones.
+   * @returns {Promise<this>} is fulfilled when the document is loaded and the server sends its operations
+   */
+  subscribe() {
+    return ignorable(asked(this, { type: "subscribe" }).then(() => this));
+  }
+  /**
+   * Unsubscribes from the document. Pending edits are still sent.
+   * @returns {Promise<void>} is fulfilled when the server has answered, or at once without a connection
+   */
+  unsubscribe() {
+    return asked(this, { type: "unsubscribe" });
+  }
+  /**
+   * Waits until nothing is pending, unsubscribes, and drops the document: the client then returns another object for
+   * it. If `Client.document` is called for it before, the document stays.
+   * @param {{discard?: boolean}} [options] `discard` drops pending edits instead of waiting for them
+   * @returns {Promise<void>}
+   */
+  async destroy(options = {}) {
+    const core = coreOf(this);
+    const { machine } = core;
+    core.leaving = core.leaving || {};
+    const { leaving } = core;
+    const isKept = () => machine.state === "closed" || core.leaving !== leaving;
+    if (options.discard)
+      run(core, { type: "discard", error: new Refusal("ERR_CLOSED") });
+    await until(core, () => machine.pending === 0 || isKept());
+    if (isKept())
+      return;
+    await this.unsubscribe();
+    await until(core, () => machine.isQuiet || machine.state === "offline" || isKept());
+    if (isKept())
+      return;
+    core.transport.forget(this);
+    close(core);
+  }
+  /**
+   * The document at a version.
+   * @param {number | null} [version] the present one by default
+   * @returns {Promise<Snapshot<T>>}
+   */
+  snapshot(version = null) {
+    return coreOf(this).transport.snapshot(this.collection, this.id, version);
+  }
+  /**
+   * The document at a time of the server's clock.
+   * @param {number | null} [moment] in milliseconds since 1970, as Date.now() returns; the present version without one
+   * @returns {Promise<Snapshot<T>>}
+   */
+  snapshotAtTime(moment = null) {
+    return coreOf(this).transport.snapshotAtTime(this.collection, this.id, moment);
+  }
+  /**
+   * The stored operations from a version on.
+   * @param {number} [from]
+   * @returns {Promise<Entry[]>}
+   */
+  operations(from = 0) {
+    return asked(this, { type: "list", from });
+  }
+  // Writing ------------------------------------------------------------------------------------------------------
+  /**
+   * Creates the document.
+   * @param {T} data
+   * @param {SubmitOptions} [options]
+   * @returns {Promise<{version: number}>} the version at which it is stored; refused with ERR_DOC_ALREADY_CREATED if
+   * the document exists
+   */
+  create(data, options) {
+    return (
+      /** @type {any} */
+      submitted(this, () => ({ create: { type: TYPE, data: readData(data) } }), options)
+    );
+  }
+  /**
+   * Creates the document if none exists. If another client was first, its document stays.
+   * @param {T} data
+   * @returns {Promise<void>} is fulfilled when the document exists
+   */
+  createIfAbsent(data) {
+    return ignorable(createdIfAbsent(this, data));
+  }
+  /**
+   * Edits the document. The edit changes `data` at once, and is sent once the one in flight is stored. It is completed
+   * by `data`: `ld` and `od` become the values that are removed.
+   * @param {Operation} operation on `data`
+   * @param {SubmitOptions} [options]
+   * @returns {Promise<{version: number | null}>} the version at which it is stored, null if there was nothing to store.
+   * If it can't be applied here it is refused at once, and nothing is changed.
+   */
+  submit(operation, options) {
+    return submitted(this, () => ({ op: readOperation(operation) }), options);
+  }
+  /**
+   * Deletes the document.
+   * @param {SubmitOptions} [options]
+   * @returns {Promise<{version: number}>}
+   */
+  remove(options) {
+    return (
+      /** @type {any} */
+      submitted(this, () => ({ del: true }), options)
+    );
+  }
+  /**
+   * @param {() => void} [listener]
+   * @returns {Promise<void>} is fulfilled when nothing is pending
+   */
+  whenNothingPending(listener) {
+    const settled = until(coreOf(this), (machine) => machine.pending === 0);
+    if (listener)
+      settled.then(listener).catch(report);
+    return settled;
+  }
+};
+function coreOf(doc) {
+  return doc._doc();
+}
+function ignorable(promise) {
+  promise.catch(() => {
+  });
+  return promise;
+}
+function run(core, input) {
+  const { machine } = core;
+  perform(core, machine.transition(input));
+  while (machine.canAdvance)
+    perform(core, machine.transition({ type: "advance" }));
+}
+function perform(core, { messages, settled, events, retries, comparison }) {
+  const { transport, doc } = core;
+  for (const message of messages)
+    transport.send(message);
+  for (const retry of retries)
+    transport.later(() => run(core, retry));
+  if (comparison !== null)
+    compare(core, comparison);
+  for (const settle of settled)
+    settle();
+  observeWaiting(core, events);
+  for (const [name, detail] of events)
+    doc.emit(name, detail);
+}
+function compare(core, version) {
+  const receive = (answer) => run(core, { type: "compared", ...answer });
+  core.transport.compare(core.collection, core.id, version, receive);
+}
+function observeWaiting(core, events) {
+  const { machine, transport } = core;
+  const { clock } = transport;
+  const since = machine.pendingSince;
+  const waiting = since !== null && clock.now() - since >= PATIENCE;
+  if (core.timer !== null)
+    clock.clearTimeout(core.timer);
+  core.timer = null;
+  if (since !== null && !waiting) {
+    const again = () => {
+      core.timer = null;
+      const due = [];
+      observeWaiting(core, due);
+      for (const [name, detail] of due)
+        core.doc.emit(name, detail);
+    };
+    core.timer = clock.setTimeout(again, since + PATIENCE - clock.now());
+  }
+  if (waiting === core.waiting)
+    return;
+  core.waiting = waiting;
+  events.push(["waiting", { waiting }]);
+}
+function close(core) {
+  run(core, { type: "closed", error: new Refusal("ERR_CLOSED") });
+}
+function keep(core) {
+  if (core.leaving === null)
+    return;
+  core.leaving = null;
+  run(core, { type: "kept" });
+}
+function coreFor(transport, collection, id) {
+  return coreOf(new Doc(transport, collection, id));
+}
+function asked(doc, input) {
+  return new Promise((resolve, reject) => run(coreOf(doc), { ...input, waiter: { resolve, reject } }));
+}
+function until(core, holds, begins = false) {
+  return new Promise((resolve, reject) => run(core, { type: "until", holds, begins, waiter: { resolve, reject } }));
+}
+function submitted(doc, read, options) {
+  const { source = doc.source } = options || {};
+  const waiter = { resolve: null, reject: null };
+  const stored = new Promise((resolve, reject) => Object.assign(waiter, { resolve, reject }));
+  try {
+    run(coreOf(doc), { type: "submit", content: read(), source, waiter });
+  } catch (error) {
+    return Promise.reject(error);
+  }
+  return ignorable(stored);
+}
+async function createdIfAbsent(doc, data) {
+  const core = coreOf(doc);
+  const { machine } = core;
+  machine.checkLoaded();
+  const read = readData(data);
+  if (machine.data === void 0) {
+    try {
+      await doc.create(read);
+    } catch (error) {
+      if (error.code !== "ERR_DOC_ALREADY_CREATED")
+        throw error;
+    }
+  }
+  await until(core, () => machine.confirmed !== void 0 || machine.isSettled, true);
+  if (machine.confirmed === void 0)
+    refuse("ERR_DOC_DOES_NOT_EXIST");
+}
+
+// src/connection.js
+var REASONS = {
+  1001: "going away",
+  1002: "protocol",
+  1007: "protocol",
+  1009: "too long",
+  1011: "out of memory",
+  1013: "full"
+};
+var PROTOCOL = 1;
+var NOTHING = { code: 1006, reason: "" };
+var PLATFORM = {
+  now: () => Date.now(),
+  setTimeout: (action, delay) => setTimeout(action, delay),
+  clearTimeout: (timer) => clearTimeout(timer)
+};
+function keyOf(collection, id) {
+  return JSON.stringify([collection, id]);
+}
+function randomSource() {
+  const bytes = globalThis.crypto.getRandomValues(new Uint8Array(20));
+  return Array.from(bytes, (byte) => (byte % 32).toString(32)).join("");
+}
+function refusalOf(message) {
+  return new Refusal(message.error.code, message.error.message);
+}
+var Client = class extends Emitter {
+  /**
+   * @param {string | (() => string)} address as `ws://127.0.0.1:8080`; a function is called at each attempt, so that it
+   * may return a new token
+   * @param {ClientOptions} [options]
+   */
+  constructor(address, options = {}) {
+    super();
+    const { source = randomSource(), WebSocket = globalThis["WebSocket"] } = options;
+    if (typeof WebSocket !== "function") {
+      throw new Error("there is no WebSocket here: hand one over, as new Client(address, { WebSocket: require('ws') })");
+    }
+    if (!isName(source))
+      throw new Error("a source is a text of 1 to 200 bytes");
+    const connection = new Connection(this, address, { ...options, source, WebSocket });
+    Object.defineProperty(this, "_client", { value: () => connection });
+    if (options.connect !== false)
+      this.connect();
+  }
+  /**
+   * The server's address.
+   * @returns {string | (() => string)}
+   */
+  get address() {
+    return connectionOf(this).address;
+  }
+  /** @returns {string} */
+  get source() {
+    return connectionOf(this).source;
+  }
+  /** @returns {ClientState} */
+  get state() {
+    return connectionOf(this).state;
+  }
+  /**
+   * Why the client has failed.
+   * @returns {Refusal | null}
+   */
+  get error() {
+    return connectionOf(this).error;
+  }
+  /**
+   * Why the last connection, or the last attempt, ended.
+   * @returns {Closing | null}
+   */
+  get closing() {
+    return connectionOf(this).closing;
+  }
+  /**
+   * Whether an edit of any document waits for more than two seconds.
+   * @returns {boolean}
+   */
+  get waiting() {
+    return [...connectionOf(this).documents.values()].some(({ waiting }) => waiting);
+  }
+  /** Connects, and reconnects if the connection is lost. */
+  connect() {
+    connectionOf(this).connect();
+  }
+  /** Closes the connection. What is submitted from now on is sent after the next `connect`. */
+  disconnect() {
+    connectionOf(this).disconnect();
+  }
+  /** Closes the connection and all documents for good. Pending edits are dropped, and fail with ERR_CLOSED. */
+  close() {
+    connectionOf(this).close();
+  }
+  /**
+   * The document of this collection and id, the same object until it is destroyed.
+   * @template [T=any]
+   * @param {string} collection or the name of a projection, which has some fields only
+   * @param {string} id
+   * @returns {import('./doc.js').Doc<T>}
+   */
+  document(collection, id) {
+    return connectionOf(this).document(collection, id);
+  }
+  /**
+   * A document at a version.
+   * @param {string} collection
+   * @param {string} id
+   * @param {number | null} [version] the present one by default
+   * @returns {Promise<import('./doc.js').Snapshot>}
+   */
+  snapshot(collection, id, version = null) {
+    return connectionOf(this).snapshot({ a: "nf", c: collection, d: id, v: version });
+  }
+  /**
+   * A document at a time of the server's clock.
+   * @param {string} collection
+   * @param {string} id
+   * @param {number | null} [moment] in milliseconds since 1970; the present version without one
+   * @returns {Promise<import('./doc.js').Snapshot>}
+   */
+  snapshotAtTime(collection, id, moment = null) {
+    return connectionOf(this).snapshot({ a: "nt", c: collection, d: id, ts: moment });
+  }
+  /** @returns {Promise<void>} is fulfilled when nothing is pending in any document */
+  async whenNothingPending() {
+    await Promise.all([...connectionOf(this).documents.values()].map(({ doc }) => doc.whenNothingPending()));
+  }
+};
+function connectionOf(client) {
+  return client._client();
+}
+var Connection = class {
+  constructor(client, address, options) {
+    this.client = client;
+    this.address = address;
+    this.source = options.source;
+    this.WebSocket = options.WebSocket;
+    const { connectTimeout = 2e4, heartbeat = 2e4, retryDelay = 1e3, longestDelay = 3e4 } = options;
+    const { mostTries = Infinity, clock = PLATFORM, random = Math.random } = options;
+    this.connectTimeout = connectTimeout;
+    this.heartbeat = heartbeat;
+    this.retryDelay = retryDelay;
+    this.longestDelay = Math.max(longestDelay, retryDelay);
+    this.mostTries = mostTries;
+    this.clock = clock;
+    this.random = random;
+    this.state = "disconnected";
+    this.error = null;
+    this.closing = null;
+    this.wanted = false;
+    this.socket = null;
+    this.isOpened = false;
+    this.isAlive = false;
+    this.timer = null;
+    this.tries = 0;
+    this.number = 0;
+    this.requested = 0;
+    this.requests = /* @__PURE__ */ new Map();
+    this.documents = /* @__PURE__ */ new Map();
+    this.transport = {
+      source: this.source,
+      clock: this.clock,
+      nextNumber: () => this.number += 1,
+      send: (text) => this.send(text),
+      later: (action) => this.later(action),
+      compare: (c, d, v, receive) => this.request({ a: "nf", c, d, v }, true, receive),
+      snapshot: (c, d, v) => this.snapshot({ a: "nf", c, d, v }),
+      snapshotAtTime: (c, d, ts) => this.snapshot({ a: "nt", c, d, ts }),
+      forget: ({ collection, id }) => this.documents.delete(keyOf(collection, id))
+    };
+  }
+  // Calls --------------------------------------------------------------------------------------------------------
+  connect() {
+    if (this.state === "closed")
+      throw new Refusal("ERR_CLOSED");
+    this.wanted = true;
+    this.tries = 0;
+    this.error = null;
+    if (this.socket === null)
+      this.open();
+  }
+  disconnect() {
+    this.wanted = false;
+    this.setTimer(null);
+    this.end("disconnected");
+  }
+  close() {
+    if (this.state === "closed")
+      return;
+    this.disconnect();
+    for (const core of this.documents.values())
+      close(core);
+    this.documents.clear();
+    this.rejectRequests(new Refusal("ERR_CLOSED"));
+    this.setState("closed");
+  }
+  document(collection, id) {
+    if (this.state === "closed")
+      throw new Refusal("ERR_CLOSED");
+    if (!isName(collection) || !isName(id))
+      throw new Error("a collection and an id are texts of 1 to 200 bytes");
+    const key = keyOf(collection, id);
+    if (!this.documents.has(key)) {
+      const core2 = coreFor(this.transport, collection, id);
+      this.documents.set(key, core2);
+      if (this.state === "connected")
+        run(core2, { type: "connected" });
+    }
+    const core = this.documents.get(key);
+    keep(core);
+    return core.doc;
+  }
+  snapshot(message) {
+    if (this.state === "closed")
+      return Promise.reject(new Refusal("ERR_CLOSED"));
+    return new Promise((resolve, reject) => {
+      this.request(message, false, ({ snapshot, error }) => error ? reject(error) : resolve(snapshot));
+    });
+  }
+  // Snapshots ----------------------------------------------------------------------------------------------------
+  // Requests a snapshot. One for a document itself is of use only over this connection.
+  request(message, isOwn, receive) {
+    this.requested += 1;
+    const text = JSON.stringify({ ...message, id: this.requested });
+    this.requests.set(this.requested, { text, isOwn, receive });
+    this.send(text);
+  }
+  receiveSnapshot(message) {
+    const request = this.requests.get(message.id);
+    if (!request)
+      return;
+    if (message.error && message.error.code === "ERR_OUT_OF_MEMORY") {
+      this.later(() => this.send(request.text));
+      return;
+    }
+    this.requests.delete(message.id);
+    if (message.error)
+      request.receive({ error: refusalOf(message) });
+    else
+      request.receive({ snapshot: { version: message.v, data: dataOf(message) } });
+  }
+  rejectRequests(error) {
+    const requests = [...this.requests.values()];
+    this.requests.clear();
+    for (const { receive } of requests)
+      receive({ error });
+  }
+  // Sending ------------------------------------------------------------------------------------------------------
+  send(text) {
+    if (this.state === "connected")
+      this.socket.send(text);
+  }
+  sendHandshake() {
+    this.socket.send(JSON.stringify({ a: "hs", id: this.source, protocol: PROTOCOL }));
+  }
+  // Runs an action after the delay, if the connection is still the same.
+  later(action) {
+    const { socket } = this;
+    this.clock.setTimeout(() => socket === this.socket && socket !== null && action(), this.retryDelay);
+  }
+  setTimer(action, delay) {
+    if (this.timer !== null)
+      this.clock.clearTimeout(this.timer);
+    const started = () => {
+      this.timer = null;
+      action();
+    };
+    this.timer = action === null ? null : this.clock.setTimeout(started, delay);
+  }
+  // The connection -----------------------------------------------------------------------------------------------
+  open() {
+    const address = typeof this.address === "function" ? this.address() : this.address;
+    const socket = new this.WebSocket(address);
+    this.socket = socket;
+    this.isOpened = false;
+    this.setTimer(() => this.end("timeout"), this.connectTimeout);
+    socket.onmessage = (event) => socket === this.socket && this.read(event.data);
+    socket.onerror = () => {
+    };
+    socket.onclose = (event) => socket === this.socket && this.lost(closingOf(event || NOTHING, this.isOpened));
+    this.setState("connecting");
+  }
+  // Ends the connection from here.
+  end(reason) {
+    const { socket } = this;
+    if (socket === null)
+      return;
+    this.lost({ code: 1e3, reason, text: "" });
+    socket.close();
+  }
+  lost(closing) {
+    this.socket = null;
+    this.tries += 1;
+    this.setTimer(null);
+    this.state = "disconnected";
+    this.closing = closing;
+    for (const [number, { isOwn }] of this.requests)
+      if (isOwn)
+        this.requests.delete(number);
+    if (this.wanted && this.tries <= this.mostTries)
+      this.setTimer(() => this.reopen(), this.delay());
+    for (const core of this.documents.values())
+      run(core, { type: "disconnected" });
+    this.client.emit("close", closing);
+    this.client.emit("state", "disconnected");
+    if (this.wanted && this.tries > this.mostTries)
+      this.fail(new Refusal("ERR_UNREACHABLE"));
+  }
+  reopen() {
+    try {
+      this.open();
+    } catch (error) {
+      this.fail(new Refusal("ERR_UNREACHABLE", error.message));
+    }
+  }
+  delay() {
+    const grown = Math.min(this.longestDelay, this.retryDelay * 2 ** Math.min(this.tries - 1, 30));
+    return grown * (1 - this.random() / 2);
+  }
+  // Nothing is tried before the next `connect`.
+  fail(error) {
+    this.wanted = false;
+    this.error = error;
+    this.end("failed");
+    this.state = "failed";
+    this.rejectRequests(error);
+    for (const core of this.documents.values())
+      run(core, { type: "failed", error });
+    this.client.emit("state", "failed");
+    this.client.emit("error", error);
+  }
+  setState(state) {
+    this.state = state;
+    this.client.emit("state", state);
+  }
+  // A server that hangs sends no sign of life: the connection is then given up.
+  checkAlive() {
+    if (!this.isAlive) {
+      this.end("silent");
+      return;
+    }
+    this.isAlive = false;
+    this.send('{"a":"hs"}');
+    this.setTimer(() => this.checkAlive(), this.heartbeat);
+  }
+  // Receiving ----------------------------------------------------------------------------------------------------
+  read(text) {
+    this.isAlive = true;
+    let message = null;
+    try {
+      message = JSON.parse(text);
+    } catch {
+    }
+    if (isMessage(message))
+      this.receive(message);
+    else
+      this.fail(new Refusal("ERR_PROTOCOL"));
+  }
+  receive(message) {
+    if (this.state === "connecting")
+      this.receiveOpening(message);
+    else if (message.a === "nf" || message.a === "nt")
+      this.receiveSnapshot(message);
+    else if (message.a !== "init" && message.a !== "hs")
+      this.receiveForDocument(message);
+  }
+  receiveOpening(message) {
+    if (message.a === "hs" && message.error && message.error.code === "ERR_OUT_OF_MEMORY") {
+      this.later(() => this.sendHandshake());
+    } else if (message.error) {
+      this.fail(refusalOf(message));
+    } else if (message.a === "init" && message.protocol === PROTOCOL) {
+      this.isOpened = true;
+      this.sendHandshake();
+    } else if (message.a === "hs") {
+      this.connected();
+    } else {
+      this.fail(new Refusal("ERR_PROTOCOL"));
+    }
+  }
+  connected() {
+    this.tries = 0;
+    this.state = "connected";
+    this.isAlive = true;
+    this.setTimer(() => this.checkAlive(), this.heartbeat);
+    for (const { text } of this.requests.values())
+      this.send(text);
+    const { socket } = this;
+    for (const core of [...this.documents.values()]) {
+      if (this.socket === socket && core.machine.state === "offline")
+        run(core, { type: "connected" });
+    }
+    if (this.socket === socket)
+      this.client.emit("state", "connected");
+  }
+  receiveForDocument(message) {
+    const core = this.documents.get(keyOf(message.c, message.d));
+    const error = message.error ? refusalOf(message) : null;
+    if (core)
+      run(core, { type: "message", message, error });
+    else if (error)
+      this.client.emit("error", error);
+  }
+};
+function closingOf({ code = NOTHING.code, reason = "" }, isOpened) {
+  return { code, reason: REASONS[code] || (isOpened ? "lost" : "refused"), text: String(reason) };
+}
+function isMessage(message) {
+  if (!isObject(message))
+    return false;
+  const { a, error, v, op } = message;
+  if (error !== void 0)
+    return isObject(error);
+  if (a !== "op")
+    return true;
+  return Number.isSafeInteger(v) && v >= 0 && (op === void 0 || Array.isArray(op));
+}
+
+// src/ot/text.js
+function commonFront(before, after, most) {
+  let length = 0;
+  while (length < most && before[length] === after[length])
+    length += 1;
+  return isHighHalf(before.charCodeAt(length - 1)) ? length - 1 : length;
+}
+function commonEnd(before, after, most) {
+  let length = 0;
+  while (length < most && before[before.length - 1 - length] === after[after.length - 1 - length])
+    length += 1;
+  return isLowHalf(before.charCodeAt(before.length - length)) ? length - 1 : length;
+}
+function textChange(path, before, after, caret = 0) {
+  const shorter = Math.min(before.length, after.length);
+  const afterCaret = commonEnd(before, after, Math.min(shorter, after.length - caret));
+  const front = commonFront(before, after, shorter - afterCaret);
+  const end = commonEnd(before, after, shorter - front);
+  const at = [...path, front];
+  const removed = before.slice(front, before.length - end);
+  const inserted = after.slice(front, after.length - end);
+  return [
+    ...removed === "" ? [] : [{ p: at, sd: removed }],
+    ...inserted === "" ? [] : [{ p: at, si: inserted }]
+  ];
+}
+function transformOffset(offset, operation, path) {
+  let carets = [{ p: [...path, offset], si: "" }];
+  for (const component of operation) {
+    carets = carets.flatMap((caret) => transformComponent(caret, component, LEFT));
+  }
+  return carets.length === 0 ? 0 : (
+    /** @type {number} */
+    carets[0].p[carets[0].p.length - 1]
+  );
+}

@@ -1,0 +1,149 @@
+/**
+ * A connection to the server, opened at once and reopened if it is lost, and the documents over it.
+ * @extends {Emitter<ClientEvents>}
+ */
+export class Client extends Emitter<ClientEvents> {
+    /**
+     * @param {string | (() => string)} address as `ws://127.0.0.1:8080`; a function is called at each attempt, so that it
+     * may return a new token
+     * @param {ClientOptions} [options]
+     */
+    constructor(address: string | (() => string), options?: ClientOptions);
+    /**
+     * The server's address.
+     * @returns {string | (() => string)}
+     */
+    get address(): string | (() => string);
+    /** @returns {string} */
+    get source(): string;
+    /** @returns {ClientState} */
+    get state(): ClientState;
+    /**
+     * Why the client has failed.
+     * @returns {Refusal | null}
+     */
+    get error(): Refusal;
+    /**
+     * Why the last connection, or the last attempt, ended.
+     * @returns {Closing | null}
+     */
+    get closing(): Closing;
+    /**
+     * Whether an edit of any document waits for more than two seconds.
+     * @returns {boolean}
+     */
+    get waiting(): boolean;
+    /** Connects, and reconnects if the connection is lost. */
+    connect(): void;
+    /** Closes the connection. What is submitted from now on is sent after the next `connect`. */
+    disconnect(): void;
+    /** Closes the connection and all documents for good. Pending edits are dropped, and fail with ERR_CLOSED. */
+    close(): void;
+    /**
+     * The document of this collection and id, the same object until it is destroyed.
+     * @template [T=any]
+     * @param {string} collection or the name of a projection, which has some fields only
+     * @param {string} id
+     * @returns {import('./doc.js').Doc<T>}
+     */
+    document<T = any>(collection: string, id: string): import("./doc.js").Doc<T>;
+    /**
+     * A document at a version.
+     * @param {string} collection
+     * @param {string} id
+     * @param {number | null} [version] the present one by default
+     * @returns {Promise<import('./doc.js').Snapshot>}
+     */
+    snapshot(collection: string, id: string, version?: number | null): Promise<import('./doc.js').Snapshot>;
+    /**
+     * A document at a time of the server's clock.
+     * @param {string} collection
+     * @param {string} id
+     * @param {number | null} [moment] in milliseconds since 1970; the present version without one
+     * @returns {Promise<import('./doc.js').Snapshot>}
+     */
+    snapshotAtTime(collection: string, id: string, moment?: number | null): Promise<import('./doc.js').Snapshot>;
+    /** @returns {Promise<void>} is fulfilled when nothing is pending in any document */
+    whenNothingPending(): Promise<void>;
+}
+export type ClientState = 'connecting' | 'connected' | 'disconnected' | 'failed' | 'closed';
+/**
+ * Why a connection ended: `full` (the server serves its limit of clients), `going away` (it shuts down, or the client
+ * was silent), `refused` (the connection was never open), `too long` (a message), `out of memory`, `protocol`,
+ * `timeout` (no handshake in time), `silent` (no sign of life), `disconnected` (by `disconnect` or `close`), `failed`
+ * (the server breaks the protocol), or `lost`.
+ */
+export type CloseReason = 'full' | 'going away' | 'refused' | 'too long' | 'out of memory' | 'protocol' | 'timeout' | 'silent' | 'disconnected' | 'failed' | 'lost';
+/**
+ * the WebSocket's code, and the server's text
+ */
+export type Closing = {
+    code: number;
+    reason: CloseReason;
+    text: string;
+};
+export type ClientEvents = {
+    state: ClientState;
+    /**
+     * a connection, or an attempt, has ended
+     */
+    close: Closing;
+    /**
+     * an error that names no document: `state` says whether the client continues
+     */
+    error: Refusal;
+};
+export type Clock = {
+    /**
+     * milliseconds
+     */
+    now: () => number;
+    setTimeout: (action: () => void, delay: number) => any;
+    clearTimeout: (timer: any) => void;
+};
+export type ClientOptions = {
+    /**
+     * names this client in all its edits. No two clients may share one, and none may be reused
+     * after a reload: a number that the server knows is a duplicate. Random by default.
+     */
+    source?: string;
+    /**
+     * the class, if there is no global one
+     */
+    WebSocket?: any;
+    /**
+     * false: the client connects only when `connect` is called
+     */
+    connect?: boolean;
+    /**
+     * milliseconds until an attempt without a handshake is given up: 20000
+     */
+    connectTimeout?: number;
+    /**
+     * milliseconds of silence after which a sign of life is requested: 20000
+     */
+    heartbeat?: number;
+    /**
+     * milliseconds before the first reconnect: 1000. The delay is doubled each time, and
+     * shortened by up to a half at random
+     */
+    retryDelay?: number;
+    /**
+     * the longest delay: 30000
+     */
+    longestDelay?: number;
+    /**
+     * after this many failures in a row the client ends, with the state 'failed'
+     */
+    mostTries?: number;
+    /**
+     * the timers; those of the platform by default
+     */
+    clock?: Clock;
+    /**
+     * from 0 to below 1, for the delays
+     */
+    random?: () => number;
+};
+import { Emitter } from "./emitter.js";
+import { Refusal } from "./errors.js";

@@ -1,0 +1,221 @@
+export function dataOf(snapshot: any): any;
+export class Machine {
+    /** @param {{collection: string, id: string, source: string, nextNumber: () => number, now: () => number}} settings */
+    constructor({ collection, id, source, nextNumber, now }: {
+        collection: string;
+        id: string;
+        source: string;
+        nextNumber: () => number;
+        now: () => number;
+    });
+    address: {
+        c: string;
+        d: string;
+    };
+    source: string;
+    nextNumber: () => number;
+    now: () => number;
+    room: number;
+    /** @type {State} */
+    state: State;
+    version: any;
+    confirmed: any;
+    data: any;
+    last: {
+        source: any;
+        seq: any;
+    };
+    inFlight: {
+        content: any;
+        seq: number;
+        text: string;
+        sent: boolean;
+        answered: any;
+        waiters: any;
+        since: any;
+        lost: any;
+        dropped: any[];
+    };
+    queue: any[];
+    arrived: Map<any, any>;
+    fetched: {
+        version: any;
+        data: any;
+    };
+    wanted: boolean;
+    followed: boolean;
+    requests: any[];
+    delayed: any[];
+    isComparing: boolean;
+    fetchers: any[];
+    subscribers: any[];
+    leavers: any[];
+    conditions: any[];
+    out: {
+        messages: any[];
+        settled: any[];
+        events: any[];
+        retries: any[];
+        comparison: any;
+    };
+    /**
+     * @param {{type: string, [member: string]: any}} input
+     * @returns {Transition}
+     * @throws {Refusal} for an edit that is refused here; nothing is changed then
+     */
+    transition(input: {
+        [member: string]: any;
+        type: string;
+    }): Transition;
+    /** The number of own contents that aren't known to be stored. */
+    get pending(): number;
+    /** The time at which the oldest pending edit was made, or null. */
+    get pendingSince(): any;
+    /** Whether no answer is outstanding. */
+    get isQuiet(): boolean;
+    /** Whether nothing is outstanding that could change the document. */
+    get isSettled(): boolean;
+    emit(name: any, detail: any): void;
+    resolve(waiters: any, value: any): void;
+    reject(waiters: any, error: any): void;
+    send(message: any): void;
+    request(kind: any, from: any, purpose: any): void;
+    sendRequest(request: any): void;
+    ask(from: any, purpose: any): void;
+    takeRequest(kind: any): any;
+    get willFollow(): boolean;
+    get isToChange(): boolean;
+    reconcile(): void;
+    isNeeded(): boolean;
+    begin(): void;
+    load(): void;
+    catchUp(): void;
+    isMissing(): boolean;
+    settle(): void;
+    receiveAnswer(message: any): void;
+    receiveSnapshot(request: any, snapshot: any): void;
+    isVerified({ listed, from }: {
+        listed: any;
+        from: any;
+    }): boolean;
+    receiveEnd(request: any): void;
+    receiveCompared({ snapshot, error }: {
+        snapshot: any;
+        error: any;
+    }): void;
+    receiveError(message: any, error: any): void;
+    refuseSubscription(request: any, error: any): void;
+    refuseDocument(error: any): void;
+    retry({ request, seq }: {
+        request: any;
+        seq: any;
+    }): void;
+    isInFlight({ seq, src }: {
+        seq: any;
+        src: any;
+    }): boolean;
+    receiveOperation(message: any): void;
+    storedAfterAll(version: any): void;
+    get canAdvance(): boolean;
+    advance(): void;
+    see(entry: any): void;
+    showOther({ content, source }: {
+        content: any;
+        source: any;
+    }, confirmed: any): void;
+    show(data: any, content: any, source: any, local: any): void;
+    emitLife(content: any, source: any, before: any, local?: boolean): void;
+    emitWhole(before: any): void;
+    replaceData(): void;
+    useFetched(): void;
+    restart(): void;
+    heal(error: any): void;
+    forgetData(): void;
+    takePending(): any[];
+    takeUnanswered(): any[];
+    pendingRecords(): any[];
+    contents(): any[];
+    checkLoaded(): void;
+    submit({ content, source, waiter }: {
+        content: any;
+        source: any;
+        waiter: any;
+    }): void;
+    completed(operation: any): {
+        content: {
+            op: import("./ot/component.cjs").Operation;
+        };
+        data: any;
+    };
+    checkSendable(content: any): void;
+    enqueue(content: any, waiter: any): void;
+    textOf(content: any, version: any, seq: any): string;
+    sendNext(): void;
+    sendFirst({ content, waiters, since }: {
+        content: any;
+        waiters: any;
+        since: any;
+    }): void;
+    dropFrom(at: any): any[];
+    refused(error: any): void;
+    reportDropped(records: any, error: any): void;
+    connected(): void;
+    disconnected(): void;
+    failed(error: any): void;
+    closed(error: any): void;
+    resume(): void;
+    fetch({ waiter }: {
+        waiter: any;
+    }): void;
+    subscribe({ waiter }: {
+        waiter: any;
+    }): void;
+    unsubscribe({ waiter }: {
+        waiter: any;
+    }): void;
+    list({ from, waiter }: {
+        from: any;
+        waiter: any;
+    }): void;
+    until({ holds, begins, waiter }: {
+        holds: any;
+        begins: any;
+        waiter: any;
+    }): void;
+    discard({ error }: {
+        error: any;
+    }): void;
+    receive({ message, error }: {
+        message: any;
+        error: any;
+    }): void;
+}
+export type Content = import('./content.cjs').Content;
+export type State = 'offline' | 'idle' | 'loading' | 'verifying' | 'catching up' | 'live' | 'refused' | 'closed';
+export type Waiter = {
+    resolve: (value?: any) => void;
+    reject: (error: Error) => void;
+};
+export type Transition = {
+    state: State;
+    /**
+     * to send
+     */
+    messages: string[];
+    /**
+     * promises to settle
+     */
+    settled: Array<() => void>;
+    /**
+     * to emit
+     */
+    events: Array<[string, any]>;
+    /**
+     * inputs that follow after a delay
+     */
+    retries: Array<object>;
+    /**
+     * the version of a snapshot to request, for a `compared` input
+     */
+    comparison: number | null;
+};

@@ -1,0 +1,71 @@
+// Compiled by package.test.js: a program that uses each call of the client with its types.
+import { Client, Doc, Emitter, Refusal, apply, complete, compose, cross, invert } from 'navirotsohy';
+import { textChange, transformComponent, transformOffset } from 'navirotsohy';
+import { cross as crossOnly } from 'navirotsohy/ot';
+import type { Closing, Component, Data, DocEvents, Entry, Operation, Snapshot } from 'navirotsohy';
+
+interface Card {
+  title: string;
+  rank: number;
+}
+
+interface Board {
+  votes: number;
+  cards: { [id: string]: Card };
+}
+
+const options = { source: 'a', retryDelay: 10, longestDelay: 20, mostTries: 3, connect: false, heartbeat: 5, connectTimeout: 9 };
+const client: Client = new Client('ws://127.0.0.1:8080', options);
+new Client(() => 'ws://127.0.0.1:8080', { clock: { now: () => 0, setTimeout, clearTimeout }, random: Math.random });
+client.on('state', (state) => state === 'failed');
+client.on('close', ({ code, reason, text }: Closing) => [code.toFixed(), reason === 'full', text.length]);
+client.once('error', ({ code }) => code === 'ERR_PROTOCOL');
+client.off('state');
+// @ts-expect-error: no such state
+client.on('state', (state) => state === 'gone');
+// @ts-expect-error: no such event
+client.on('states', () => undefined);
+
+const board: Doc<Board> = client.document<Board>('board', '1');
+const other = client.document('board', '2');
+board.on('op', ({ operation, source, local, before, data }) => [operation.length, source, local, before.votes, data.votes]);
+board.on('restarted', ({ version, data, contents }) => [version, data?.votes, contents.length]);
+board.on('refused', ({ error, contents }) => error instanceof Refusal && contents[0].op);
+board.on('waiting', ({ waiting }) => (waiting ? 1 : 2), { signal: new AbortController().signal });
+const stop: () => void = board.on('load', ({ version }) => version + 1);
+stop();
+const events: Emitter<DocEvents<Board>> = board;
+events.off('change');
+
+export async function main(): Promise<void> {
+  await (await board.subscribe()).createIfAbsent({ votes: 0, cards: {} });
+  await board.fetch();
+  const votes: number | undefined = board.data?.votes;
+  // @ts-expect-error: not the document's type
+  await board.create({ votes: 'many' });
+  const operation: Operation = [{ p: ['votes'], na: votes ?? 1 }, { p: ['cards', 'a'], oi: { title: '', rank: 1 } }];
+  const { version } = await board.submit(operation, { source: board });
+  if (version !== null) version.toFixed();
+  // @ts-expect-error: no such shape
+  await board.submit([{ p: ['votes'], lm: 1 }]);
+  const at: Snapshot<Board> = await board.snapshot(3);
+  const then: Snapshot<Board> = await board.snapshotAtTime(Date.now());
+  const entries: Entry[] = await board.operations(0);
+  await client.snapshot('board', '1', at.version + entries.length + (then.data?.votes ?? 0));
+  await client.snapshotAtTime('board', '1');
+  const made: number = (await other.create([1, { anything: null }])).version;
+  await other.remove({ source: made });
+  await board.whenNothingPending(() => undefined);
+  await client.whenNothingPending();
+  await board.unsubscribe();
+  await board.destroy({ discard: true });
+  const waiting: boolean = board.waiting || client.waiting || board.wanted || board.state === 'live';
+  const one: Component = operation[0];
+  transformComponent(one, one, waiting ? 'left' : 'right').concat(compose(operation, cross(operation, operation).right));
+  const data: Data = apply({ t: '' }, textChange(['t'], 'a', 'b', 1));
+  crossOnly(invert(operation, data), complete(data, operation).operation);
+  transformOffset(1, operation, ['t']);
+  client.connect();
+  client.disconnect();
+  client.close();
+}

@@ -1,4 +1,0 @@
-import * as api from './client.js';
-
-export * from './client.js';
-export default api;

@@ -1,0 +1,277 @@
+"""The client of examples/client.py: by the vectors, and by clients that edit one document and lose their connections."""
+import asyncio
+import importlib.util
+import json
+import pathlib
+import random
+import subprocess
+
+import pytest
+
+from support.dialogue import ROOT
+from support.edits import any_edit
+from support.frames import text
+from support.server import Server
+
+pytest.importorskip("websockets")
+
+# tests/clients has another module `client`
+SPEC = importlib.util.spec_from_file_location("second_client", ROOT / "examples" / "client.py")
+second = importlib.util.module_from_spec(SPEC)
+SPEC.loader.exec_module(second)
+
+VECTORS = json.loads((ROOT / "client" / "test" / "vectors" / "pairs.json").read_text())
+START = {"n": 1, "t": "ab😀cd", "l": [1, "x", {"k": "v"}], "a": {"b": "t"}}
+PATIENCE = 120  # seconds until all clients have the same document
+
+
+# Vectors --------------------------------------------------------------------------------------------------------------
+
+
+def applied(document, operation):
+    """Returns the document after the operation as the vectors have it: null if it is refused."""
+    try:
+        return operation and {"data": second.apply_content(document["data"], {"op": operation})} or document
+    except second.Refused:
+        return None
+
+
+def results(vector):
+    document = {"data": vector["document"]}
+    try:
+        left, right = second.cross(vector["left"], vector["right"])
+    except second.Refused:
+        left = right = None
+    after_left = applied(document, vector["left"])
+    return {
+        "afterLeft": after_left,
+        "afterRight": applied(document, vector["right"]),
+        "crossedLeft": left,
+        "crossedRight": right,
+        "afterBoth": applied(after_left, right) if after_left and right is not None else None,
+    }
+
+
+def test_vectors():
+    wrong = []
+    for number, vector in enumerate(VECTORS):
+        found = results(vector)
+        # JSON texts distinguish 1 and true
+        if any(json.dumps(found[it], sort_keys=True) != json.dumps(vector[it], sort_keys=True) for it in found):
+            wrong.append(number)
+    assert not wrong and len(VECTORS) > 1_000
+
+
+def test_long_operations():
+    left = [{"p": ["t", 0], "sd": "x" * 600}]
+    right = [{"p": ["t", 2 * it + 1], "si": "-"} for it in range(299)]
+    mine, other = second.cross(left, right)
+    assert len(mine) == 300
+    document = {"t": "x" * 600}
+    orders = [applied(applied({"data": document}, left), other), applied(applied({"data": document}, right), mine)]
+    assert orders == [{"data": {"t": "-" * 299}}] * 2
+
+
+# The server's transform -----------------------------------------------------------------------------------------------
+
+PAIRS = 400
+
+
+def random_operation(chance, document):
+    """Returns up to four components, each made for the document after the ones before."""
+    operation = []
+    for _ in range(chance.randint(1, 4)):
+        component = any_edit(chance, document)
+        if component:
+            operation.append(component)
+            document = second.apply_component(document, component)
+    return operation
+
+
+def pair_lines(number, earlier, later):
+    """Returns messages that store an operation and then a concurrent one, and list the second as it is stored."""
+    place = {"c": "pairs", "d": str(number)}
+    contents = {"create": {"type": "json0", "data": START}}, {"op": earlier}, {"op": later}
+    yield from ({"a": "op", **place, "v": min(seq, 1), "seq": seq, **it} for seq, it in enumerate(contents))
+    yield from ({"a": "f", **place, **it} for it in ({"v": 2}, {}))
+
+
+def test_agreement_with_the_server(program, seed):
+    """The operation that arrives later is the left one."""
+    chance = random.Random(f"{seed} pairs")
+    pairs = [(random_operation(chance, START), random_operation(chance, START)) for _ in range(PAIRS)]
+    lines = [json.dumps(it) for number, pair in enumerate(pairs) for it in pair_lines(number, *pair)]
+    ran = subprocess.run([program, "--lines"], input="\n".join(lines) + "\n", capture_output=True, text=True, timeout=PATIENCE)
+    answers = [json.loads(it) for it in ran.stdout.splitlines()]
+    assert not [it for it in answers if "error" in it]
+    stored = {int(it["d"]): it["op"] for it in answers if it.get("v") == 2 and "op" in it}
+    shown = {int(it["d"]): it["data"]["data"] for it in answers if it["a"] == "f" and "data" in it}
+    for number, (earlier, later) in enumerate(pairs):
+        left, right = second.cross(later, earlier)
+        assert json.dumps(left, sort_keys=True) == json.dumps(stored[number], sort_keys=True), (earlier, later)
+        assert second.apply_content(second.apply_content(START, {"op": later}), {"op": right}) == shown[number]
+
+
+# Clients --------------------------------------------------------------------------------------------------------------
+
+
+class Running:
+    """Clients of one server, each with the document board/1."""
+
+    def __init__(self, url, count, seed):
+        self.chance = random.Random(seed)
+        self.clients = [second.Client(url, first_pause=0.02) for _ in range(count)]
+        self.dropped = []
+        self.documents = [it.document("board", "1", on_dropped=self.drop) for it in self.clients]
+
+    def drop(self, document, contents, code):
+        self.dropped.append((code, contents))
+
+    async def __aenter__(self):
+        self.tasks = [asyncio.create_task(it.run()) for it in self.clients]
+        await self.until(lambda: all(it.is_ready for it in self.documents))
+        return self
+
+    async def __aexit__(self, *_):
+        for client in self.clients:
+            client.close()
+        await asyncio.wait_for(asyncio.gather(*self.tasks, return_exceptions=True), PATIENCE)
+
+    async def until(self, condition):
+        async def wait():
+            while not condition():
+                for task in self.tasks:
+                    assert not task.done(), task.exception()
+                await asyncio.sleep(0.01)
+
+        await asyncio.wait_for(wait(), PATIENCE)
+
+    async def settled(self):
+        """Waits until nothing is pending and all have one version."""
+        await self.until(lambda: not any(it.sent or it.queue or it.early for it in self.documents))
+        await self.until(lambda: len({it.version for it in self.documents}) == 1)
+
+    def edit(self, document):
+        if document.shown is second.ABSENT:
+            document.create(START)
+        elif self.chance.random() < 0.01:
+            document.delete()
+        else:
+            component = any_edit(self.chance, document.shown)
+            if component:
+                document.submit([component])
+
+
+def stored(server):
+    with server.enter() as connection:
+        connection.send(text({"a": "f", "c": "board", "d": "1", "v": 0}))
+        names = []
+        while (message := connection.message())["a"] == "op":
+            names.append((message["src"], message["seq"]))
+        return connection.ask({"a": "f", "c": "board", "d": "1"})["data"], names
+
+
+@pytest.mark.parametrize("run", range(3))
+def test_clients_converge(server, seed, run):
+    """Four clients make 200 edits each, some while they are disconnected."""
+
+    async def play():
+        async with Running(server.url, 4, f"{seed} {run}") as running:
+            for _ in range(800):
+                at = running.chance.randrange(4)
+                running.edit(running.documents[at])
+                if running.chance.random() < 0.05 and running.clients[at].outgoing:
+                    running.clients[at].reconnect()
+                if running.chance.random() < 0.3:
+                    await asyncio.sleep(running.chance.random() / 100)
+            await running.settled()
+            return running.documents, running.dropped
+
+    documents, dropped = asyncio.run(play())
+    shown, names = stored(server)
+    assert len(names) == len(set(names)) == shown["v"]
+    for document in documents:
+        assert (document.version, document.shown) == (shown["v"], shown.get("data", second.ABSENT))
+        assert document.stored == document.shown
+    assert all(code in (second.CREATED, second.DELETED, second.MISSING) for code, _ in dropped)
+
+
+def test_offline_edits(server):
+    """A client edits while it is disconnected. Its edits are shown at once and stored later."""
+
+    async def play():
+        async with Running(server.url, 2, "offline") as running:
+            ours, theirs = running.documents
+            ours.create({"t": "ab", "n": 0})
+            await running.settled()
+            running.clients[0].reconnect()
+            ours.submit([{"p": ["t", 1], "si": "-"}])
+            ours.submit([{"p": ["n"], "na": 2}])
+            assert ours.shown == {"t": "a-b", "n": 2}
+            theirs.submit([{"p": ["t", 0], "sd": "ab"}, {"p": ["n"], "na": 5}])
+            await running.settled()
+            return ours.shown, theirs.shown, running.dropped
+
+    assert asyncio.run(play()) == ({"t": "-", "n": 7}, {"t": "-", "n": 7}, [])
+
+
+def test_removed_values_are_completed(server):
+    """An `oi` on an existing key becomes a replacement, and an `od` of an absent key is left out."""
+
+    async def play():
+        async with Running(server.url, 2, "rule") as running:
+            ours, theirs = running.documents
+            ours.create({"k": "ab"})
+            await running.settled()
+            ours.submit([{"p": ["k"], "oi": "x"}, {"p": ["none"], "od": 1}])
+            theirs.submit([{"p": ["k", 0], "si": "z"}])
+            await running.settled()
+            return ours.shown == theirs.shown
+
+    assert asyncio.run(play())
+    assert not [it for it in stored(server)[1] if it[1] > 2]
+
+
+def test_sum_that_gets_too_large(server):
+    async def play():
+        async with Running(server.url, 2, "sum") as running:
+            ours, theirs = running.documents
+            ours.create({"n": second.MAX - 1})
+            await running.settled()
+            ours.submit([{"p": ["n"], "na": 1}])
+            theirs.submit([{"p": ["n"], "na": 1}])
+            await running.settled()
+            return ours.shown, theirs.shown, [code for code, _ in running.dropped]
+
+    assert asyncio.run(play()) == ({"n": second.MAX}, {"n": second.MAX}, [second.NOT_APPLIED])
+
+
+def test_restarted_server(program):
+    """A restarted server has lost the document: the client drops pending edits and starts anew."""
+
+    async def play(first):
+        host, port = first.address
+        async with Running(first.url, 1, "restart") as running:
+            (document,) = running.documents
+            document.create({"n": 1})
+            await running.settled()
+            first.release()
+            await running.until(lambda: not running.clients[0].outgoing)
+            document.submit([{"p": ["n"], "na": 1}])
+            with Server(program, address=f"{host}:{port}") as again:
+                with again.enter() as other:
+                    for seq in range(3):
+                        content = {"op": []} if seq else {"create": {"type": "json0", "data": {"m": 1}}}
+                        other.ask({"a": "op", "c": "board", "d": "1", "src": "other", "seq": seq, **content})
+                await running.until(lambda: document.is_ready and document.version == 3)
+                return document.shown, running.dropped
+
+    with Server(program) as first:
+        shown, dropped = asyncio.run(play(first))
+    assert shown == {"m": 1}
+    assert dropped == [(second.RESTARTED, [{"op": [{"p": ["n"], "na": 1}]}])]
+
+
+def test_length():
+    source = pathlib.Path(second.__file__).read_text()
+    assert len(source.splitlines()) <= 400
