@@ -10,7 +10,7 @@ import sys
 
 TYPE = "http://sharejs.org/types/JSONv0"
 SOURCES = 8
-BEHIND = 8
+MAX_LAG = 8
 MARKS = 500
 
 
@@ -63,7 +63,7 @@ def main(operations, cards=20):
     for number in range(1, operations):
         source = number % SOURCES
         # the source has seen its own last operation
-        version = max(1, number - board.pick.randrange(BEHIND))
+        version = max(1, number - board.pick.randrange(MAX_LAG))
         message = {"a": "op", "c": "boards", "d": "1", "v": version, "src": f"u{source}", "seq": number}
         message["op"] = board.edit(source, number, version)
         print(json.dumps(message, separators=(",", ":")))

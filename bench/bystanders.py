@@ -127,7 +127,7 @@ def main(program, edits=10_000):
         try:
             time.sleep(1)
             end = time.monotonic() + LONGEST
-            report("beside", bystander, edits, lambda: late.value >= LATE or time.monotonic() > end)
+            report("concurrent", bystander, edits, lambda: late.value >= LATE or time.monotonic() > end)
             print(f"meanwhile {late.value} late operations and {stored.value} others were acknowledged")
         finally:
             for other in others:

@@ -174,9 +174,9 @@ def calls():
 
 def main(words):
     compare("1,000 documents", "lines.py", 100_000)
-    compare("one text, 8 sources up to 8 versions behind", "trace.py", 100_000)
+    compare("one text, 8 sources, base versions up to 8 old", "trace.py", 100_000)
     compare("one number", "counts.py", 100_000)
-    compare("one board, 8 sources up to 8 versions behind", "boards.py", 100_000)
+    compare("one board, 8 sources, base versions up to 8 old", "boards.py", 100_000)
     subscriptions()
     long_logs()
     pairs()

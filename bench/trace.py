@@ -7,7 +7,7 @@ import sys
 
 TYPE = "http://sharejs.org/types/JSONv0"
 SOURCES = 8
-BEHIND = 8
+MAX_LAG = 8
 
 
 def main(operations):
@@ -20,7 +20,7 @@ def main(operations):
     shortest = len(start)
     for number in range(1, operations):
         source = number % SOURCES
-        at = max(1, version - pick.randrange(BEHIND + 1))
+        at = max(1, version - pick.randrange(MAX_LAG + 1))
         offset = pick.randrange(shortest)
         message = {"a": "op", "c": "notes", "d": "1", "v": at, "src": f"u{source}", "seq": number}
         message["op"] = [{"p": ["text", offset], "si": pick.choice("abcdefgh ")}]

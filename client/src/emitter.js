@@ -71,11 +71,14 @@ export class Emitter {
     state.waiting.push({ event, detail });
     if (state.isEmitting) return;
     state.isEmitting = true;
-    while (state.waiting.length > 0) {
-      const next = state.waiting.shift();
-      for (const record of recordsOf(this, next.event)) call(this, next.event, record, next.detail);
+    try {
+      while (state.waiting.length > 0) {
+        const next = state.waiting.shift();
+        for (const record of recordsOf(this, next.event)) call(this, next.event, record, next.detail);
+      }
+    } finally {
+      state.isEmitting = false;
     }
-    state.isEmitting = false;
   }
 }
 

@@ -469,8 +469,10 @@ test('the server stores an operation that the client expects to be refused: its 
   const most = Number.MAX_SAFE_INTEGER;
   const { doc, events, socket } = loaded({ n: most - 1 });
   const edits = [doc.submit([{ p: ['n'], na: 1 }]), doc.submit([{ p: ['k'], oi: 1 }])];
+  const changes = [];
+  doc.on('change', ({ operation, data }) => changes.push([operation, data]));
   socket.answer(stored(3, [{ p: ['n'], na: 1 }]));
-  assert.deepStrictEqual([doc.data, events], [{ n: most }, []]);
+  assert.deepStrictEqual([doc.data, events, changes], [{ n: most }, [], [[null, { n: most }]]]);
   const whileAwaited = doc.submit([{ p: ['m'], oi: 2 }]);
   socket.taken();
   socket.answer(acknowledged(4, 1));
@@ -813,8 +815,11 @@ test('a listener edits: each listener receives the operations in their order', O
   let edit = null;
   doc.once('op', () => (edit = doc.submit(insert(0, 'o'))));
   doc.on('op', ({ operation, data }) => told.push([operation, data]));
+  const names = [];
+  for (const name of ['op', 'change']) doc.on(name, ({ operation: [{ si }] }) => names.push([name, si]));
   doc.submit(insert(3, 'd'));
   assert.deepStrictEqual(told, [[insert(3, 'd'), 'abcd'], [insert(0, 'o'), 'oabcd']]);
+  assert.deepStrictEqual(names, [['op', 'd'], ['op', 'o'], ['change', 'o'], ['change', 'd']]);
   socket.answer(acknowledged(3, 1), acknowledged(4, 2));
   assert.deepStrictEqual(await edit, { version: 4 });
   holds(doc, 5, 'oabcd');
@@ -1257,6 +1262,7 @@ test('a document is destroyed after requests that were sent again, compared or l
   const next = reconnected(all);
   assert.strictEqual(next.taken().length, 1);
   const last = reconnected({ ...all, socket: next });
+  assert.strictEqual(last.sent.filter(({ a }) => a === 'nf').length, 1);
   compared(last);
   last.answer({ a: 's', ...ADDRESS });
   await fetching;
@@ -1386,4 +1392,55 @@ test('an edit is sent once all operations that were received are processed', OPT
   next.taken();
   next.answer(stored(3, insert(0, 'x')), stored(4, insert(0, 'y')), stored(5, insert(0, 'z')), { a: 's', ...ADDRESS });
   assert.deepStrictEqual(next.taken(), [{ a: 'op', ...ADDRESS, v: 6, src: 'me', seq: 1, op: insert(6, '!') }]);
+});
+
+test('a report that throws doesn\'t stop later events', OPTIONS, () => {
+  const { doc, socket } = loaded();
+  let calls = 0;
+  doc.on('version', () => {
+    calls += 1;
+    throw new Error('a listener');
+  });
+  globalThis.reportError = () => {
+    throw new Error('a report');
+  };
+  assert.throws(() => socket.answer(stored(3, insert(0, 'x'))), /a report/);
+  globalThis.reportError = () => {};
+  socket.answer(stored(4, insert(0, 'y')));
+  delete globalThis.reportError;
+  assert.strictEqual(calls, 2);
+  holds(doc, 5, 'yxabc');
+});
+
+test('a document that is being compared is destroyed after the answer', OPTIONS, async () => {
+  const all = loaded();
+  const next = reconnected(all);
+  let isDone = false;
+  const leaving = all.doc.destroy().then(() => (isDone = true));
+  await flush();
+  assert.strictEqual(isDone, false);
+  compared(next);
+  next.answer({ a: 'f', ...ADDRESS });
+  await leaving;
+  assert.strictEqual(all.doc.state, 'closed');
+});
+
+test('two clients delete the document: both deletes are stored', OPTIONS, async () => {
+  const { doc, socket } = loaded();
+  const gone = doc.remove();
+  socket.answer(storedDelete(3));
+  assert.deepStrictEqual([doc.version, doc.data, doc.pending], [4, undefined, 1]);
+  socket.answer(acknowledged(4, 1));
+  assert.deepStrictEqual(await gone, { version: 4 });
+  holds(doc, 5, undefined);
+});
+
+test('a delete of an absent document that another client creates is refused', OPTIONS, async () => {
+  const { doc, socket } = absent();
+  const gone = doc.remove();
+  socket.answer(storedCreate(0, 'theirs'));
+  assert.deepStrictEqual([doc.version, doc.data], [1, 'theirs']);
+  socket.answer(refused('op', 'ERR_DOC_ALREADY_CREATED', { src: 'me', seq: 1 }));
+  await assert.rejects(gone, { code: 'ERR_DOC_ALREADY_CREATED' });
+  holds(doc, 1, 'theirs');
 });

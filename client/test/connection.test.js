@@ -390,3 +390,24 @@ test('a snapshot is requested once over each connection', OPTIONS, async () => {
   sockets.last().answer({ a: 'nf', id: 1, v: 0, type: null });
   assert.deepStrictEqual(await snapshot, { version: 0, data: undefined });
 });
+
+test('disconnect ends the wait for the next attempt, and a failure all timers', OPTIONS, () => {
+  const { client: made, clock, sockets } = client();
+  sockets.last().close(1006);
+  made.disconnect();
+  clock.advance(1000000);
+  assert.deepStrictEqual([made.state, sockets.opened.length, clock.timers], ['disconnected', 1, []]);
+  made.connect();
+  sockets.last().open();
+  sockets.last().onmessage({ data: 'nonsense' });
+  assert.deepStrictEqual([made.state, clock.timers], ['failed', []]);
+});
+
+test('an attempt after an open connection may be refused', OPTIONS, () => {
+  const { clock, closings, sockets } = client();
+  sockets.last().open();
+  sockets.last().close(1006);
+  clock.advance(1000);
+  sockets.last().close(1006);
+  assert.deepStrictEqual(closings, [[1006, 'lost'], [1006, 'refused']]);
+});

@@ -21,7 +21,7 @@ import sys
 import tempfile
 
 CLIENT = pathlib.Path(__file__).resolve().parent.parent
-PATIENCE = 40  # seconds for the tests of one change
+PATIENCE = 30  # seconds for the tests of one change
 # The test files by the folder of the changed file, the one that detects the most first.
 TESTS = {
     "ot/": ["ot.test.js", "faults.test.js", "cases.test.js"],
@@ -78,14 +78,9 @@ def detected(folder, file):
             if process.wait(PATIENCE) != 0:
                 return True
         except subprocess.TimeoutExpired:
-            return True
-        finally:
-            # (the session is this process's own)
-            try:
-                os.killpg(process.pid, signal.SIGKILL)
-            except ProcessLookupError:
-                pass
+            os.killpg(process.pid, signal.SIGKILL)  # (the session is this process's own, and it still runs)
             process.wait()
+            return True
     return False
 
 

@@ -313,6 +313,18 @@ test('a part has at most 256 components and fits into its room', OPTIONS, () => 
     assert.ok(count > 2);
     assert.deepStrictEqual(document, end);
   }
+  for (const count of [74, 75, 76, 77]) {
+    for (let rest = [{ p: ['t', 0], sd: '😀'.repeat(count) }]; rest.length > 0;) {
+      const { part, rest: next } = firstPart(rest, 60);
+      assert.ok(part.every(({ sd }) => !/[\ud800-\udfff]/u.test(sd)), JSON.stringify(part));
+      rest = next;
+    }
+  }
+  for (let rest = many; rest.length > 0;) {
+    const { part, rest: next } = firstPart(rest, 500);
+    assert.ok(JSON.stringify(part).length <= 501 && part.length > 10);
+    rest = next.length > 20 ? next : [];
+  }
   const long = 'x'.repeat(300);
   assert.deepStrictEqual(firstPart([{ p: ['k'], od: long }, { p: [0], ld: [long], li: 1 }, { p: ['l'], od: 'y' }], 200).part, [
     { p: ['k'], od: null }, { p: [0], ld: null, li: 1 }, { p: ['l'], od: 'y' },

@@ -1,4 +1,4 @@
-"""One test for each attack: beside an honest client, at a server of its own.
+"""One test for each attack, with an honest client, at a server of its own.
 
     tests/run slow -k reader_that_never_reads
 """
