@@ -90,22 +90,29 @@ var Emitter = class {
    * @param {Events[Name]} detail
    */
   emit(event, detail) {
-    const state = stateOf(this);
-    state.waiting.push({ event, detail });
-    if (state.isEmitting)
-      return;
-    state.isEmitting = true;
-    try {
-      while (state.waiting.length > 0) {
-        const next = state.waiting.shift();
-        for (const record of recordsOf(this, next.event))
-          call(this, next.event, record, next.detail);
-      }
-    } finally {
-      state.isEmitting = false;
-    }
+    const name = (
+      /** @type {string} */
+      event
+    );
+    emitAll(this, [[name, detail]]);
   }
 };
+function emitAll(emitter, events) {
+  const state = stateOf(emitter);
+  state.waiting.push(...events);
+  if (state.isEmitting)
+    return;
+  state.isEmitting = true;
+  try {
+    while (state.waiting.length > 0) {
+      const [event, detail] = state.waiting.shift();
+      for (const record of recordsOf(emitter, event))
+        call(emitter, event, record, detail);
+    }
+  } finally {
+    state.isEmitting = false;
+  }
+}
 function stateOf(emitter) {
   return emitter._emitter();
 }
@@ -1823,8 +1830,7 @@ function perform(core, { messages, settled, events, retries, comparison }) {
   for (const settle of settled)
     settle();
   observeWaiting(core, events);
-  for (const [name, detail] of events)
-    doc.emit(name, detail);
+  emitAll(doc, events);
 }
 function compare(core, version) {
   const receive = (answer) => run(core, { type: "compared", ...answer });
@@ -1843,8 +1849,7 @@ function observeWaiting(core, events) {
       core.timer = null;
       const due = [];
       observeWaiting(core, due);
-      for (const [name, detail] of due)
-        core.doc.emit(name, detail);
+      emitAll(core.doc, due);
     };
     core.timer = clock.setTimeout(again, since + PATIENCE - clock.now());
   }

@@ -2,7 +2,7 @@
  * A document, as an application uses it.
  * @module
  */
-import { Emitter, report } from './emitter.js';
+import { Emitter, emitAll, report } from './emitter.js';
 import { Refusal, refuse } from './errors.js';
 import { TYPE } from './limits.js';
 import { Machine } from './machine.js';
@@ -41,7 +41,7 @@ export const PATIENCE = 2000;
  * @property {{version: number, data: T | undefined, contents: Content[]}} restarted the server was restarted and has
  *   lost the document: `data` is the document as it was stored, `contents` are the pending edits, which are dropped
  * @property {{version: number}} healed the document here differed from the server's and was replaced
- * @property {{waiting: boolean}} waiting an edit waits for more than two seconds, or none does any more
+ * @property {{waiting: boolean}} waiting an edit waits for more than two seconds, or no edit does
  * @property {Refusal} error the document can't be subscribed to or fetched
  */
 /** @typedef {{source?: any}} SubmitOptions `source` is any value, which listeners receive */
@@ -298,7 +298,7 @@ function perform(core, { messages, settled, events, retries, comparison }) {
   if (comparison !== null) compare(core, comparison);
   for (const settle of settled) settle();
   observeWaiting(core, events);
-  for (const [name, detail] of events) doc.emit(name, detail);
+  emitAll(doc, events);
 }
 
 function compare(core, version) {
@@ -319,7 +319,7 @@ function observeWaiting(core, events) {
       core.timer = null;
       const due = [];
       observeWaiting(core, due);
-      for (const [name, detail] of due) core.doc.emit(name, detail);
+      emitAll(core.doc, due);
     };
     core.timer = clock.setTimeout(again, since + PATIENCE - clock.now());
   }

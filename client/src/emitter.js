@@ -67,18 +67,28 @@ export class Emitter {
    * @param {Events[Name]} detail
    */
   emit(event, detail) {
-    const state = stateOf(this);
-    state.waiting.push({ event, detail });
-    if (state.isEmitting) return;
-    state.isEmitting = true;
-    try {
-      while (state.waiting.length > 0) {
-        const next = state.waiting.shift();
-        for (const record of recordsOf(this, next.event)) call(this, next.event, record, next.detail);
-      }
-    } finally {
-      state.isEmitting = false;
+    const name = /** @type {string} */ (event);
+    emitAll(this, [[name, detail]]);
+  }
+}
+
+/**
+ * Emits events one after the other. Those that a listener causes are emitted after all of these.
+ * @param {any} emitter
+ * @param {Array<[string, any]>} events
+ */
+export function emitAll(emitter, events) {
+  const state = stateOf(emitter);
+  state.waiting.push(...events);
+  if (state.isEmitting) return;
+  state.isEmitting = true;
+  try {
+    while (state.waiting.length > 0) {
+      const [event, detail] = state.waiting.shift();
+      for (const record of recordsOf(emitter, event)) call(emitter, event, record, detail);
     }
+  } finally {
+    state.isEmitting = false;
   }
 }
 

@@ -1,6 +1,6 @@
 /**
  * The state machine of one document. It has no socket, clock or promise: `transition` takes an input and returns the
- * new state, and what its owner has to do: messages to send, promises to settle, events to emit. So no listener runs in
+ * new state, and what its owner does: messages to send, promises to settle, events to emit. So no listener runs in
  * the middle of a transition. A transition processes at most one stored operation: `canAdvance` tells whether there is
  * another one, for an `advance` input.
  *

@@ -232,7 +232,7 @@ test('an allocation failure: fetches, subscriptions and their ends are requested
   holds(doc, 4, 'xabc');
 });
 
-test('an allocation failure: a subscription that isn\'t wanted any more is not requested again', OPTIONS, async () => {
+test('an allocation failure: a subscription that is no longer wanted is not requested again', OPTIONS, async () => {
   const { clock, doc, socket } = started();
   const first = doc.subscribe();
   socket.answer(refused('s', 'ERR_OUT_OF_MEMORY'));
@@ -819,7 +819,7 @@ test('a listener edits: each listener receives the operations in their order', O
   for (const name of ['op', 'change']) doc.on(name, ({ operation: [{ si }] }) => names.push([name, si]));
   doc.submit(insert(3, 'd'));
   assert.deepStrictEqual(told, [[insert(3, 'd'), 'abcd'], [insert(0, 'o'), 'oabcd']]);
-  assert.deepStrictEqual(names, [['op', 'd'], ['op', 'o'], ['change', 'o'], ['change', 'd']]);
+  assert.deepStrictEqual(names, [['op', 'd'], ['change', 'd'], ['op', 'o'], ['change', 'o']]);
   socket.answer(acknowledged(3, 1), acknowledged(4, 2));
   assert.deepStrictEqual(await edit, { version: 4 });
   holds(doc, 5, 'oabcd');
@@ -1199,7 +1199,7 @@ test('a fetch is served after a verification that fails, and after a subscriptio
   }
 });
 
-test('a fetch is served after a subscription that isn\'t wanted any more', OPTIONS, async () => {
+test('a fetch is served after a subscription that is no longer wanted', OPTIONS, async () => {
   const { client, clock, doc, socket, sockets } = started({ connect: false });
   assert.strictEqual(socket, undefined);
   const fetching = doc.fetch();

@@ -1,4 +1,4 @@
-/* Operations: random cases beside the model, the server's vectors, and the helpers. */
+/* Operations: random cases against the model, the server's vectors, and the helpers. */
 
 import assert from 'node:assert';
 import fs from 'node:fs';
@@ -62,8 +62,8 @@ function checkInvert({ start, left, right, afterLeft, afterRight }) {
   tried(() => apply(both.result, moved.result.left));
 }
 
-test('random operations beside the model', OPTIONS, () => {
-  const seed = seedOf('operations beside the model');
+test('random operations against the model', OPTIONS, () => {
+  const seed = seedOf('operations against the model');
   const documents = randomDocuments(seed);
   const count = {};
   for (let made = 0; made < CASES; made += 1) {
@@ -107,7 +107,7 @@ test('a completed operation has the removed values, and does the same', OPTIONS,
   }
 });
 
-test('a random change of a text, and a caret beside it', OPTIONS, () => {
+test('a random change of a text, and its caret', OPTIONS, () => {
   const documents = randomDocuments(seedOf('texts'));
   for (let made = 0; made < CASES / 3; made += 1) {
     const before = documents.text(6);

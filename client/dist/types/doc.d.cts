@@ -41,7 +41,7 @@ export const PATIENCE: 2000;
  * @property {{version: number, data: T | undefined, contents: Content[]}} restarted the server was restarted and has
  *   lost the document: `data` is the document as it was stored, `contents` are the pending edits, which are dropped
  * @property {{version: number}} healed the document here differed from the server's and was replaced
- * @property {{waiting: boolean}} waiting an edit waits for more than two seconds, or none does any more
+ * @property {{waiting: boolean}} waiting an edit waits for more than two seconds, or no edit does
  * @property {Refusal} error the document can't be subscribed to or fetched
  */
 /** @typedef {{source?: any}} SubmitOptions `source` is any value, which listeners receive */
@@ -286,7 +286,7 @@ export type DocEvents<T = any> = {
         version: number;
     };
     /**
-     * an edit waits for more than two seconds, or none does any more
+     * an edit waits for more than two seconds, or no edit does
      */
     waiting: {
         waiting: boolean;

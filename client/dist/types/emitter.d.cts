@@ -8,6 +8,12 @@
  */
 export function report(error: unknown): void;
 /**
+ * Emits events one after the other. Those that a listener causes are emitted after all of these.
+ * @param {any} emitter
+ * @param {Array<[string, any]>} events
+ */
+export function emitAll(emitter: any, events: Array<[string, any]>): void;
+/**
  * Keeps listeners by the name of an event. An exception of a listener is reported, and the others are called.
  * Events are emitted one after the other: an event that a listener causes is emitted after the present one. The state
  * is kept in a closure, so that a proxy of the object works too.
