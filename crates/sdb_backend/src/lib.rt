@@ -2,8 +2,8 @@
 //! and the audit of the stored operations.
 //!
 //! Each answer is the machine's at one history of the key's shard. That history extends all that
-//! the pass has observed. Of the caller's submissions it contains exactly those that were answered
-//! as stored, each once.
+//! the pass has observed. Of the caller's submissions it contains exactly those that the caller's
+//! earlier calls stored. No contract covers several calls.
 #![tactic(auto)]
 
 mod audit;

@@ -13,8 +13,9 @@ use std::alloc::{AllocError, Global};
 // Maximum number of bytes per read: 64 KiB.
 const BUFFER_LEN: usize = 65_536;
 
-/// Reads a dump to its end and checks it: it is exactly what a server would have stored for the
-/// submissions in it. Lines may have any length. A read takes at most 64 KiB, and at most
+/// Reads a dump to its end and checks it: each entry is what `decide` stores for its submission on
+/// the entries before it. The check has no projections, so it accepts content that a projection
+/// would refuse. Lines may have any length. A read takes at most 64 KiB, and at most
 /// [`READ_LIMIT`] reads are made.
 ///
 /// # Errors
