@@ -20,6 +20,7 @@ use Rattle.std.specs.Result.{result_ok}
 use Rattle.sdb_desk.specs.Machine.{Machine, PlainAttempt, PlainOutcome, decided, moved as moved_on, QueuesByKey, with_queues, close_queue, queue_start, subscribe_opened, subscribe_step, subscribe_from_start, DecidesOrOutOfMemory, CommitsOrOutOfMemory, SubscribesOrOutOfMemory, TakesOrOutOfMemory, IsUnchanged, PlainSubscribeResult}
 use Rattle.sdb_submit.specs.Calls.{PlainCall, look, commit, commit_now, current_version, fetch, ops_from, ops_between, snapshot, snapshot_at_time, forget, subscribe, take_next, unsubscribe, CallAnswer, MachineStep}
 use Rattle.sdb_backend.specs.HistoryOrder.{IsExtension, QueueContinues, QueuesContinue, Extends, stored_by, queue_owned_by, share_of, AddsToShare, Share}
+use Rattle.sdb_backend.specs.PassRuns.{IsCallUnder}
 use Rattle.sdb_backend.specs.HistoryOrderLaws.{is_extension_refl, queue_continues_refl, queues_continue_refl}
 
 -- ---- the share of a number in logs
@@ -80,21 +81,6 @@ at_each R f g k w itself writes e q =
     subst (λ x. R (x q) (f q)) (sym e) (wrote_or (keys_equal k q) R f k q w refl (itself (f q)) writes)
 
 -- ---- each call
-
-abbrev pub IsCallUnder : ℕ → PlainCall → Type 0
-IsCallUnder n (look s) = s.by ≡ n
-IsCallUnder n (commit a now) = a.submission.by ≡ n
-IsCallUnder n (commit_now s now) = s.by ≡ n
-IsCallUnder n current_version = Unit {0}
-IsCallUnder n fetch = Unit {0}
-IsCallUnder n (ops_from v) = Unit {0}
-IsCallUnder n (ops_between v w) = Unit {0}
-IsCallUnder n (snapshot v) = Unit {0}
-IsCallUnder n (snapshot_at_time t) = Unit {0}
-IsCallUnder n forget = Unit {0}
-IsCallUnder n (subscribe v) = Unit {0}
-IsCallUnder n (take_next i max) = Unit {0}
-IsCallUnder n (unsubscribe i) = Unit {0}
 
 -- the machine after a call extends the one before, and the shares of other numbers are equal
 pub record MachineGrows (n : ℕ) (m new : Machine) : Type 0 where

@@ -7,5 +7,6 @@ pub mod ReplySend
 pub mod SearchLemmas
 pub mod SeenLemmas
 pub mod StepLemmas
+pub mod PassRunLemmas
 pub mod OpenCountLemmas
 pub mod ReplayLemmas

@@ -11,10 +11,10 @@ use Rattle.sdb_desk.specs.ShardView.{machine_of}
 use Rattle.sdb_desk.specs.View.{taken_view}
 use Rattle.sdb_desk.specs.Machine.{Machine, PlainLook, PlainAttempt, IsUnchanged, decided, moved}
 use Rattle.sdb_submit.specs.Calls.{PlainCall, look, commit, commit_now, take_next, CallAnswer, MachineStep}
-use Rattle.sdb_submit.specs.SubmitLoop.{CallRelation, SubmitRelation}
+use Rattle.sdb_submit.specs.SubmitLoop.{SubmitRelation}
 use Rattle.sdb_submit.specs.laws.SubmitLaws.{IsSubmitInvariant, submit_preserves, decided_at_commit, out_of_memory_unchanged}
 use Rattle.sdb_striped_lock.specs.laws.SeatLaws.{have_seen_unique}
-use Rattle.sdb_backend.specs.CallAnswers.{AnsweredAtExtension, AddsEntry, TakeContinues}
+use Rattle.sdb_backend.specs.CallAnswers.{AnsweredAtExtension, PassCalls, AddsEntry, TakeContinues}
 use Rattle.sdb_backend.specs.HistoryOrder.{Extends, share_of, queue_owned_by, AddsToShare, Share}
 use Rattle.sdb_backend.specs.HistoryOrderLaws.{extends_trans}
 use Rattle.sdb_backend.specs.PassModel.{pass_number}
@@ -51,9 +51,6 @@ answered_after_unchanged k c e a b p o q h same d =
     )
 
 module _ (k : PlainKey) (s : PlainSubmission) (now : ℕ) where
-  abbrev pub PassCallsHere : CallRelation Pass
-  PassCallsHere c p a q = AnsweredAtExtension k c p a q
-
   -- the submission gets the machine's answer at one history
   abbrev pub AtomicSubmitHere : Pass → PlainReply → Pass → Type 0
   AtomicSubmitHere p r q = AnsweredAtExtension k (commit_now s now) p r q
@@ -61,7 +58,7 @@ module _ (k : PlainKey) (s : PlainSubmission) (now : ℕ) where
   abbrev attempt_of_look : PlainLook → PlainAttempt
   attempt_of_look l = record { submission = s; look = l }
 
-  one_step_unchanged : IsSubmitInvariant PassCallsHere s now AtomicSubmitHere
+  one_step_unchanged : IsSubmitInvariant (PassCalls k) s now AtomicSubmitHere
   one_step_unchanged = record {
     look_failed = λ p o q r h d. answered_after_unchanged k (look s) (commit_now s now) None r p o q h h.6.1 d;
     look_taken = λ p o q l r h d. answered_after_unchanged k (look s) (commit_now s now) (Some l) r p o q h h.6.1 d;
@@ -74,8 +71,8 @@ module _ (k : PlainKey) (s : PlainSubmission) (now : ℕ) where
     commit_now_decided = λ p q r h. h;
   }
 
-  pub in_one_step : (p q : Pass) (r : PlainReply) → SubmitRelation PassCallsHere s now p r q → AtomicSubmitHere p r q
-  in_one_step p q r h = submit_preserves PassCallsHere s now AtomicSubmitHere one_step_unchanged p r q h
+  pub in_one_step : (p q : Pass) (r : PlainReply) → SubmitRelation (PassCalls k) s now p r q → AtomicSubmitHere p r q
+  in_one_step p q r h = submit_preserves (PassCalls k) s now AtomicSubmitHere one_step_unchanged p r q h
 
   -- a reply `stored` adds one entry
   pub step_adds : (p q : Pass) (r : PlainReply) → AtomicSubmitHere p r q → s.by ≡ pass_number p → AddsEntry k s now p r q

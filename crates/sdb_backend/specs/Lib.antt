@@ -6,4 +6,5 @@ pub mod HistoryOrderLaws
 pub mod OpenQueueCount
 pub mod ReplayBases
 pub mod PassModel
+pub mod PassRuns
 pub mod laws

@@ -47,6 +47,15 @@ PassHasSeen p k x = PassHasSeenShard p (shard_of k) x
 abbrev pub HasEmptyShare : Pass → Type 0
 HasEmptyShare p = (i : ℕ) → i < 8 → (x : Held) × PassHasSeenShard p i x × (share_of (pass_number p) (machine_of x.shard) ≡ empty_share)
 
+-- in the host's observed history of each shard every number's share is empty
+abbrev pub HasEmptyShares : Host → Type 0
+HasEmptyShares h =
+    (i : ℕ) → i < 8 → (x : Held) × RootSeatsHaveSeen h.seats i x × ((n : ℕ) → share_of n (machine_of x.shard) ≡ empty_share)
+
+-- the pass has observed the host's history of each shard
+abbrev pub HasSeenHostHistories : Pass → Host → Type 0
+HasSeenHostHistories p h = (i : ℕ) → i < 8 → (x : Held) × RootSeatsHaveSeen h.seats i x × PassHasSeenShard p i x
+
 -- each number that was issued is the number of one of the passes
 abbrev pub HasEveryPass : ℕ → List Pass → Type 0
 HasEveryPass next passes = (k : ℕ) → 0 < k → k < next → Contains (map pass_number passes) k

@@ -8,8 +8,9 @@ ghost use Rattle.sdb_oplog.specs.Keys.{plain_key, shard_of};
 ghost use Rattle.sdb_oplog.specs.declared.codes.Code.TheVariants.{E10, E11};
 ghost use Rattle.sdb_desk.specs.ShardView.{machine_of};
 ghost use Rattle.sdb_backend.specs.AuditModel.{ExtendsEveryPass};
+ghost use Rattle.sdb_backend.specs.CallAnswers.{ComparedAtKey};
 ghost use Rattle.sdb_backend.specs.HistoryOrder.{Extends, share_of};
-ghost use Rattle.sdb_backend.specs.PassModel.{pass_number, next_pass_number, IsPassOfBackend, IsHostOfBackend, HasEmptyShare, PassHasSeen, HasEveryPass};
+ghost use Rattle.sdb_backend.specs.PassModel.{pass_number, next_pass_number, IsPassOfBackend, IsHostOfBackend, HasEmptyShare, HasEmptyShares, HasSeenHostHistories, PassHasSeen, HasEveryPass};
 ghost use Rattle.sdb_backend.specs.declared.shard_value.Held.{Held as HeldShard};
 ghost use Rattle.sdb_backend.specs.declared.backend.CloseError.TheVariants.{OutOfMemory, MissingPass};
 
@@ -32,7 +33,7 @@ use std::sync::Wait;
 /// let mut pass = backend.enter(&mut host)?;
 /// // `submission` was made by the pass: its `by` is `pass.number()`.
 /// let now = Moment::zero();
-/// let reply = submit(alloc, &backend, &mut pass, &key, &submission, now, &NoGate);
+/// let reply = submit(alloc, &backend, &mut pass, &key, submission, now, &NoGate);
 /// assert!(rt; matches!(reply, Reply::Stored { v: 0, .. }));
 /// assert_eq!(rt; backend.fetch(&mut pass, &key)?.version, 1);
 /// ```
@@ -77,6 +78,7 @@ impl<R: Wait + Drop> Backend<R> {
     pub fn new(alloc: Global, rt: R) -> Result<(Backend<R>, Host), AllocError>
         ensures host { IfOk result (λ made. IsHostOfBackend made.1 made.0) }
         ensures next { IfOk result (λ made. next_pass_number made.1 ≡ 1) }
+        ensures empty { IfOk result (λ made. HasEmptyShares made.1) }
     {
         let (locks, seats) = StripedLock::new(alloc)?;
         Ok((Backend { alloc, rt, locks }, Host { seats }))
@@ -100,6 +102,7 @@ impl<R: Wait + Drop> Backend<R> {
         ensures host { IsHostOfBackend host.new self.now }
         ensures pass { IfOk result (λ p. IsPassOfBackend p self.now × (pass_number p ≡ next_pass_number host.old)) }
         ensures new { IfOk result (λ p. HasEmptyShare p) }
+        ensures seen { IfOk result (λ p. HasSeenHostHistories p host.old) }
         ensures next { OnOk result (next_pass_number host.new ≡ next_pass_number host.old + 1) }
         ensures bound { OnOk result (next_pass_number host.old < u64.MAX) }
         ensures full { IfErr result (λ code. code ≡ E11 → next_pass_number host.old ≡ u64.MAX) }
@@ -111,6 +114,22 @@ impl<R: Wait + Drop> Backend<R> {
             Err(SplitFault::OutOfNumbers) => Err(Code::E11),
             Err(SplitFault::OutOfMemory) => Err(Code::E10),
         }
+    }
+
+    /// Compares what two passes have observed of a key's shard: one history extends both. Neither
+    /// pass observes anything new. It doesn't wait.
+    pub fn compare(&self, first: &mut Pass, second: &mut Pass, key: &Key)
+        requires passes { IsPassOfBackend first.old self.now × IsPassOfBackend second.old self.now }
+        ensures first { IsPassOfBackend first.new self.now }
+        ensures second { IsPassOfBackend second.new self.now }
+        ensures numbers_unchanged { (pass_number first.new ≡ pass_number first.old)
+            × (pass_number second.new ≡ pass_number second.old) }
+        ensures others_unchanged { let i = shard_of (plain_key key.now) in
+            ChangedOnlyAt i first.old.seats first.new.seats × ChangedOnlyAt i second.old.seats second.new.seats }
+        ensures compared { ComparedAtKey (plain_key key.now) first.old first.new second.old second.new }
+    {
+        self.locks
+            .compare(&mut first.seats, &mut second.seats, key.shard());
     }
 
     /// Closes the backend, given its host and all its passes, and returns the audit of its logs.

@@ -2,9 +2,9 @@
 ghost use Rattle.std.specs.Prelude.{◌≡◌, IfOk, Some, option_map};
 ghost use Rattle.sdb_oplog.specs.Keys.{plain_key};
 ghost use Rattle.sdb_desk.specs.ReplyView.{plain_reply};
-ghost use Rattle.sdb_desk.specs.View.{fetch_result_view};
-ghost use Rattle.sdb_submit.specs.Calls.{snapshot_at_time, commit_now, snapshot};
-ghost use Rattle.sdb_backend.specs.CallAnswers.{AnsweredAtExtension, IsLookSeenBy, AddsEntry, TakeContinues};
+ghost use Rattle.sdb_desk.specs.View.{fetch_result_view, taken_view};
+ghost use Rattle.sdb_submit.specs.Calls.{snapshot_at_time, commit_now, snapshot, take_next};
+ghost use Rattle.sdb_backend.specs.CallAnswers.{AnsweredAtExtension, IsLookSeenBy, ForgetsCache, AddsEntry, TakeContinues};
 ghost use Rattle.sdb_backend.specs.PassModel.{pass_number, IsPassOfBackend};
 
 use crate::backend::Backend;
@@ -31,6 +31,8 @@ impl<R: Wait + Drop> Desk for Backend<R> {
     ghost pass_number = { λ b p. pass_number p };
 
     ghost step = { λ b k c p a q. AnsweredAtExtension k c p a q };
+
+    ghost caches_step = { λ b k c p q. ForgetsCache k c q };
 
     ghost has_seen = { λ b k a p. IsLookSeenBy p k a };
 
@@ -214,16 +216,16 @@ pub fn submit_is_atomic<R: Wait + Drop, G: Gate>(
     backend: &Backend<R>,
     pass: &mut Pass,
     key: &Key,
-    submission: &Submission,
+    submission: Submission,
     now: Moment,
     gate: &G,
 ) -> Reply
     requires pass { IsPassOfBackend pass.old backend.now }
-    requires by { submission.now.by ≡ pass_number pass.old }
+    requires by { submission.by ≡ pass_number pass.old }
     ensures pass { IsPassOfBackend pass.new backend.now }
-    ensures decides { AnsweredAtExtension (plain_key key.now) (commit_now submission.now now) pass.old
+    ensures decides { AnsweredAtExtension (plain_key key.now) (commit_now submission now) pass.old
         (plain_reply result) pass.new }
-    ensures adds_entry { AddsEntry (plain_key key.now) submission.now now pass.old (plain_reply result) pass.new }
+    ensures adds_entry { AddsEntry (plain_key key.now) submission now pass.old (plain_reply result) pass.new }
 {
     submit(alloc, backend, pass, key, submission, now, gate)
 }
@@ -245,6 +247,8 @@ pub fn take_is_fifo<R: Wait + Drop>(
     ensures pass { IsPassOfBackend pass.new backend.now }
     ensures entries { IfOk result
         (λ v. TakeContinues (plain_key key.now) id max pass.old (option_map (λ es. es.items) v) pass.new) }
+    ensures answered { AnsweredAtExtension (plain_key key.now) (take_next id max) pass.old
+        (taken_view result) pass.new }
 {
     backend.take(pass, key, id, max)
 }

@@ -1,8 +1,8 @@
 //! The calls of a shard as jobs under a lock. Each job does what the machine does for its call.
-ghost use Rattle.std.specs.Prelude.{◌≡◌, option_map};
+ghost use Rattle.std.specs.Prelude.{◌≡◌, [], option_map};
 ghost use Rattle.sdb_oplog.specs.Decide.{IsMade};
 ghost use Rattle.sdb_oplog.specs.Keys.{plain_key};
-ghost use Rattle.sdb_desk.specs.ShardView.{machine_of, logs_of};
+ghost use Rattle.sdb_desk.specs.ShardView.{machine_of, logs_of, caches_of};
 ghost use Rattle.sdb_desk.specs.Looks.{IsLook};
 ghost use Rattle.sdb_desk.specs.View.{outcome_of_decision, fetch_result_view, entries_view, subscribe_result_view, taken_view};
 ghost use Rattle.sdb_desk.specs.ReplyView.{plain_reply};
@@ -268,7 +268,7 @@ impl<'a> Job<Held> for ForgetJob<'a> {
     ghost precondition = { λ j n a. Unit {0} };
 
     ghost postcondition = { λ j n a b r. MachineStep n (machine_of a.shard) (plain_key j.key.now)
-        call.forget tt (machine_of b.shard) };
+        call.forget tt (machine_of b.shard) × (caches_of b.shard (plain_key j.key.now) ≡ []) };
 
     fn run(self, _number: u64, held: &mut Held) {
         let Self { key } = self;

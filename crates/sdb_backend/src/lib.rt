@@ -3,7 +3,7 @@
 //!
 //! Each answer is the machine's at one history of the key's shard. That history extends all that
 //! the pass has observed. Of the caller's submissions it contains exactly those that the caller's
-//! earlier calls stored. No contract covers several calls.
+//! earlier calls stored. The module `laws` has the contracts of several calls.
 #![tactic(auto)]
 
 mod audit;
@@ -11,6 +11,7 @@ mod audit_listing;
 mod backend;
 mod desk;
 mod jobs;
+pub mod laws;
 mod pass;
 mod pass_check;
 mod shard_value;

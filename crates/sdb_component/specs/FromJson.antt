@@ -1,6 +1,6 @@
 -- The operation of a JSON value (json0's README, "Summary of operations"), within the limits of the profile.
-use Rattle.std.specs.Prelude.{◌≡◌, ℕ, suc, ℤ, List, [], ◌∷◌, ◌++◌, Bool, true, false, ◌||◌, if◌then◌else◌, nat_lt, codes, Option, Some, None, option_map, option_and_then, ⊤}
-use Rattle.std.specs.Option.{is_some}
+use Rattle.std.specs.Prelude.{◌≡◌, ℕ, suc, ℤ, List, [], ◌∷◌, ◌++◌, Bool, true, false, ◌||◌, ◌&&◌, not, if◌then◌else◌, nat_lt, codes, Option, Some, None, option_map, option_and_then, ⊤}
+use Rattle.std.specs.Option.{is_some, option_map_or}
 use Rattle.serde_json.specs.Data as raw
 use Rattle.serde_json.specs.Data.{Data}
 use Rattle.serde_json.specs.Find.{get, as_str, as_number, as_array}
@@ -129,6 +129,23 @@ components_of (raw.item d ds) =
 -- an operation is an array of at most 256 components, including dropped ones
 abbrev pub op_of : Data → Option (List PlainComponent)
 op_of d = option_and_then (λ ds. if nat_lt 256 (data_item_count ds) then None else components_of ds) (as_array d)
+
+-- ---- What is refused at sight is refused without an allocation: a path that is no array of at most 50 items, a component of no
+-- shape, an operation that is no array of at most 256 items.
+
+abbrev pub path_allocates : Data → Bool
+path_allocates d = option_map_or (λ ds. not (nat_lt 50 (data_item_count ds))) (as_array d) false
+
+abbrev pub component_allocates : Data → Bool
+component_allocates d = is_some (act_kind_of d) && option_map_or path_allocates (get (codes "p") d) false
+
+abbrev pub items_allocate : raw.Items → Bool
+items_allocate raw.no_items = true
+items_allocate (raw.item d raw.no_items) = component_allocates d
+items_allocate (raw.item d (raw.item e ds)) = not (nat_lt 256 (data_item_count (raw.item d (raw.item e ds))))
+
+abbrev pub op_allocates : Data → Bool
+op_allocates d = option_map_or items_allocate (as_array d) false
 
 -- ---- faults of the parser
 

@@ -19,7 +19,7 @@ pub(crate) fn has_field<D: JsonData>(value: &D, key: &str) -> bool
 pub(crate) fn whole_field<D: JsonData>(value: &D, key: &str) -> Option<Whole>
     ensures { result ≡ whole_member key.now (D.json value.now) }
 {
-    whole_of(value.get(key)?.as_number()?)
+    whole_of(value.get(key)?)
 }
 
 pub(crate) fn text_field<D: JsonData>(

@@ -1,7 +1,8 @@
 //! The parser of operations.
-ghost use Rattle.std.specs.Prelude.{◌≡◌, ◌∷◌, [], map, IfOk, IfErr, Some, option_to_list};
+ghost use Rattle.std.specs.Prelude.{◌≡◌, ◌∷◌, [], map, true, Err, IfOk, IfErr, Some, option_to_list};
 ghost use Rattle.serde_json.specs.View.{items_of};
-ghost use Rattle.sdb_component.specs.FromJson.{component_of, components_of, op_of, FaultMeansNone};
+ghost use Rattle.sdb_component.specs.FromJson.{component_of, components_of, op_of, component_allocates, op_allocates, FaultMeansNone};
+ghost use Rattle.sdb_component.specs.declared.from_json.OpFault.TheVariants.{OutOfMemory as no_memory};
 
 use crate::act_kind::act_kind_of;
 use crate::component::Component;
@@ -47,11 +48,13 @@ impl From<AllocError> for OpFault {
 /// # Errors
 ///
 /// [`OpFault::BadlyFormed`] if the value is no such array, [`OpFault::OutOfMemory`] if an
-/// allocation fails.
+/// allocation fails. A value that is no array, an array of more than 256 items, and a single
+/// component without a shape or with more than 50 steps are refused without an allocation.
 #[tactic(auto, using(crate::proofs::SizeLemmas::view_size))]
 pub fn read_op<D: JsonData>(alloc: Global, value: &D) -> Result<Op, OpFault>
     ensures ok { IfOk result (λ o. op_of (D.json value.now) ≡ Some o) }
     ensures err { IfErr result (λ f. FaultMeansNone (op_of (D.json value.now)) f) }
+    ensures memory { result ≡ Err no_memory → op_allocates (D.json value.now) ≡ true }
 {
     let Some(items) = value.as_array() else {
         return Err(OpFault::BadlyFormed);
@@ -59,16 +62,17 @@ pub fn read_op<D: JsonData>(alloc: Global, value: &D) -> Result<Op, OpFault>
     if items.len() > 256 {
         return Err(OpFault::BadlyFormed);
     }
-    match items {
-        [item] => single_component(alloc, item),
-        items => Ok(Op::new(components_of(alloc, items)?)),
+    if items.len() == 1 {
+        return single_component(alloc, &items[0]);
     }
+    Ok(Op::new(components_of(alloc, items)?))
 }
 
 // Returns the operation of one component, or the empty one if it is dropped.
 fn single_component<D: JsonData>(alloc: Global, item: &D) -> Result<Op, OpFault>
     ensures ok { IfOk result (λ o. components_of (items_of (D.json item.now ∷ [])) ≡ Some o) }
     ensures err { IfErr result (λ f. FaultMeansNone (components_of (items_of (D.json item.now ∷ []))) f) }
+    ensures memory { result ≡ Err no_memory → component_allocates (D.json item.now) ≡ true }
 {
     match component_of(alloc, item)? {
         Some(component) => Ok(Op::one(component)),
@@ -92,6 +96,7 @@ fn components_of<D: JsonData>(alloc: Global, items: &[D]) -> Result<Vec<Componen
 fn component_of<D: JsonData>(alloc: Global, value: &D) -> Result<Option<Component>, OpFault>
     ensures ok { IfOk result (λ c. component_of (D.json value.now) ≡ Some (option_to_list c)) }
     ensures err { IfErr result (λ f. FaultMeansNone (component_of (D.json value.now)) f) }
+    ensures memory { result ≡ Err no_memory → component_allocates (D.json value.now) ≡ true }
 {
     let Some(shape) = act_kind_of(value) else {
         return Err(OpFault::BadlyFormed);

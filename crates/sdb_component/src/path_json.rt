@@ -1,7 +1,8 @@
 //! Paths in JSON.
-ghost use Rattle.std.specs.Prelude.{◌≡◌, ◌++◌, ◌∷◌, [], map, Some, IfOk, IfErr, OnOk, string_bytes};
+ghost use Rattle.std.specs.Prelude.{◌≡◌, ◌++◌, ◌∷◌, [], map, true, Some, Err, IfOk, IfErr, OnOk, string_bytes};
 ghost use Rattle.serde_json.specs.View.{items_of};
-ghost use Rattle.sdb_component.specs.FromJson.{FaultMeansNone, split_last_index, split_last_key, path_of, path_step_of, path_steps_of};
+ghost use Rattle.sdb_component.specs.FromJson.{FaultMeansNone, split_last_index, split_last_key, path_of, path_step_of, path_steps_of, path_allocates};
+ghost use Rattle.sdb_component.specs.declared.from_json.OpFault.TheVariants.{OutOfMemory as no_memory};
 ghost use Rattle.sdb_value.specs.View.{plain_path, plain_step};
 
 use crate::from_json::OpFault;
@@ -47,6 +48,7 @@ fn path_steps_of<D: JsonData>(alloc: Global, items: &[D]) -> Result<Vec<Step>, O
 pub(crate) fn path_of<D: JsonData>(alloc: Global, value: &D) -> Result<Vec<Step>, OpFault>
     ensures ok { IfOk result (λ p. path_of (D.json value.now) ≡ Some (plain_path p.items)) }
     ensures err { IfErr result (λ f. FaultMeansNone (path_of (D.json value.now)) f) }
+    ensures memory { result ≡ Err no_memory → path_allocates (D.json value.now) ≡ true }
 {
     let Some(items) = value.as_array() else {
         return Err(OpFault::BadlyFormed);

@@ -37,14 +37,14 @@ pub record PlainFetchResult : Type 0 where
   pub version : ℕ
   pub snapshot : Option Value
 
--- a look at a log: its length, the version of a duplicate, and otherwise the missed entries and the document
+-- a look at a log: its length, the version of a duplicate, the missed entries and the document
 abbrev pub look_at : List PlainEntry → PlainSubmission → PlainLook
 look_at log s =
     record {
       version = length log;
       repeat = stored_at s.src s.seq log;
-      missed = if is_some (stored_at s.src s.seq log) then [] else missed_entries log s;
-      snapshot = if is_some (stored_at s.src s.seq log) then None else document_of log;
+      missed = missed_entries log s;
+      snapshot = document_of log;
     }
 
 -- a look allocates for missed entries and for a document

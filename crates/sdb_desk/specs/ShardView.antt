@@ -3,6 +3,7 @@ use Rattle.std.specs.Prelude.{ℕ, List, Option}
 use Rattle.sdb_oplog.specs.Keys.{PlainKey, Logs, with_value_at_key}
 use Rattle.sdb_oplog.specs.Plain.{PlainEntry}
 use Rattle.sdb_snapcache.specs.CacheModel.{Snapshot}
+use Rattle.sdb_snapcache.specs.SnapInvariant.{AreSnapsOf}
 use Rattle.sdb_subscribe.specs.Ring.{RingedQueue, without_rings, ring_at}
 use Rattle.sdb_desk.specs.DocumentModel.{PlainDocument}
 use Rattle.sdb_desk.specs.MapModel.{value_at_key}
@@ -30,6 +31,10 @@ caches_of m k = (documents_of m k).cache
 
 abbrev pub with_cache : CachesByKey → PlainKey → List Snapshot → CachesByKey
 with_cache = with_value_at_key
+
+-- each cached snapshot is the document at its version of its key's log
+abbrev pub AreCachesOf : Logs → CachesByKey → Type 0
+AreCachesOf logs caches = (k : PlainKey) → AreSnapsOf (logs k) (caches k)
 
 -- the queues of each key, without their ring buffers
 abbrev pub queues_of : Shard → QueuesByKey

@@ -1,3 +1,4 @@
+pub mod CachesLaws
 pub mod KeyLaws
 pub mod LookLaws
 pub mod MapLaws

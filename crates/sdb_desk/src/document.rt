@@ -421,18 +421,9 @@ pub(crate) fn look_at(
     ensures look { IfOk result (λ l. plain_look l ≡ look_at log.now submission.now) }
     ensures memory { OnErr result (look_allocates log.now submission.now ≡ true) }
 {
-    let version = log.len();
-    if let Some(v) = log.stored_at(submission.src(), submission.seq()) {
-        return Ok(Look {
-            version,
-            repeat: Some(v),
-            missed: Vec::new(alloc),
-            snapshot: None,
-        });
-    }
     Ok(Look {
-        version,
-        repeat: None,
+        version: log.len(),
+        repeat: log.stored_at(submission.src(), submission.seq()),
         missed: clone_entries(alloc, missed_entries(log, submission))?,
         snapshot: clone_document(alloc, present)?,
     })

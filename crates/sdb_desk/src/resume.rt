@@ -1,7 +1,9 @@
 //! Work resumed with a newer look.
-ghost use Rattle.std.specs.Prelude.{◌≡◌, ◌≤◌, IfOk, IfErr, IfSome, IsTrue, IsFalse, length, take, drop};
-ghost use Rattle.sdb_oplog.specs.Rebase.{rebase};
+ghost use Rattle.std.specs.Prelude.{◌≡◌, ◌≤◌, ◌++◌, List, true, IfOk, IfErr, IfSome, IfNone, OnErr, IsTrue, IsFalse, length, take, drop};
+ghost use Rattle.sdb_oplog.specs.Plain.{PlainEntry};
+ghost use Rattle.sdb_oplog.specs.Rebase.{rebase, rebase_allocates};
 ghost use Rattle.sdb_oplog.specs.Refusal.{result_and_then};
+ghost use Rattle.sdb_desk.specs.Machine.{work_allocates};
 ghost use Rattle.sdb_desk.specs.View.{rebased_content_of, plain_attempt, plain_look};
 
 use crate::work::{Attempt, Look, RebasedContent, Work};
@@ -15,11 +17,14 @@ impl Work {
     ///
     /// # Errors
     ///
-    /// The attempt with the newer look if an allocation fails. The old work is then lost.
+    /// The attempt with the newer look if an allocation fails. The old work is then lost. It
+    /// allocates only to transform an edit against an edit, and to change a document.
     pub fn resume(self, alloc: Global, look: Look) -> Result<Work, Attempt>
         ensures ok { IfOk result (λ w. w ≡ record { submission = self.submission; look = plain_look look }) }
         ensures err { IfErr result
             (λ a. plain_attempt a ≡ record { submission = self.submission; look = plain_look look }) }
+        ensures memory { OnErr result
+            (work_allocates (record { submission = self.submission; look = plain_look look }) ≡ true) }
     {
         let (attempt, worked) = self.into_parts();
         let is_front = is_prefix(attempt.look.missed.as_slice(), look.missed.as_slice());
@@ -63,9 +68,12 @@ fn rebase_rest(
     worked: RebasedContent,
     entries: &[Entry],
 ) -> Option<RebasedContent>
-    ensures { IfSome result
+    ensures rebased { IfSome result
         (λ r. rebased_content_of arrived.now r
         ≡ result_and_then (λ k. rebase k entries.now) (rebased_content_of arrived.now worked)) }
+    ensures memory { (missed : List PlainEntry)
+        → rebased_content_of arrived.now worked ≡ rebase arrived.now missed
+        → IfNone result (rebase_allocates arrived.now (missed ++ entries.now) ≡ true) }
 {
     let current = match &worked {
         RebasedContent::Unchanged => arrived,

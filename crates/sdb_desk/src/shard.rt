@@ -323,7 +323,6 @@ impl Shard {
         requires missed { work.now.look.missed
             ≡ missed_entries (logs_of self.old (plain_key key.now)) work.now.submission }
         requires snapshot { work.now.look.snapshot ≡ document_of (logs_of self.old (plain_key key.now)) }
-        requires new { work.now.look.repeat ≡ None }
         ensures logs { OnOk result (logs_of self.new ≡ with_log (logs_of self.old) (plain_key key.now)
             (decide (logs_of self.old (plain_key key.now)) work.now.submission now).log) }
         ensures reply { OnOk result ((decide (logs_of self.old (plain_key key.now)) work.now.submission now).reply ≡
@@ -690,8 +689,8 @@ impl Shard {
             (λ l. version ≡ length (logs_of self.old (plain_key key.now)) → l.entries.items ≡ []) }
         ensures err { IfErr result (λ code. ReadOrOutOfMemory read_has_version (Err code)
             (snapshot_at (logs_of self.old (plain_key key.now)) (Some version))) }
-        ensures caches { OnOk result (CacheAfterUse (logs_of self.old (plain_key key.now)) version
-            (caches_of self.old (plain_key key.now)) (caches_of self.new (plain_key key.now))) }
+        ensures caches { CacheAfterUse (logs_of self.old (plain_key key.now)) version
+            (caches_of self.old (plain_key key.now)) (caches_of self.new (plain_key key.now)) }
         ensures others_unchanged { caches_of self.new ≡
             with_cache (caches_of self.old) (plain_key key.now) (caches_of self.new (plain_key key.now)) }
         ensures logs_unchanged { logs_of self.new ≡ logs_of self.old }

@@ -1,7 +1,8 @@
 //! Looks, attempts and works.
-ghost use Rattle.std.specs.Prelude.{◌≡◌, [], true, IfOk, IfErr, IsErrOf, None, Ok, Err, OnErr, option_map, unwrap_or};
+ghost use Rattle.std.specs.Prelude.{◌≡◌, true, IfOk, IfErr, IsErrOf, Ok, Err, OnErr, option_map, unwrap_or};
 ghost use Rattle.sdb_oplog.specs.Rebase.{rebase};
 ghost use Rattle.sdb_oplog.specs.Refusal.{IsRefusalOrOutOfMemory};
+ghost use Rattle.sdb_oplog.specs.Snap.{apply_content};
 ghost use Rattle.sdb_oplog.specs.declared.codes.Code.TheVariants.{E10};
 ghost use Rattle.sdb_value.specs.View.{value_of};
 ghost use Rattle.sdb_desk.specs.Machine.{WorkAfterCommit, work_result, work_allocates};
@@ -9,7 +10,7 @@ ghost use Rattle.sdb_desk.specs.View.{rebased_content_of, plain_document_result,
 
 use crate::document::{Reply, apply_content};
 use crate::shard::{CommitDecision, Outcome};
-use sdb_oplog::{Code, Content, Entry, Submission, rebase};
+use sdb_oplog::{Code, Content, Entry, Kind, Submission, rebase};
 use sdb_value::Json;
 use std::alloc::Global;
 use std::marker::Model;
@@ -22,10 +23,9 @@ pub struct Look {
     pub version: u64,
     /// The version of the submission's duplicate, if it has one.
     pub repeat: Option<u64>,
-    /// The entries stored since the submission's base version. Empty for a duplicate, and if the
-    /// version is too new.
+    /// The entries stored since the submission's base version. Empty if the version is too new.
     pub missed: Vec<Entry>,
-    /// The current document, shared with the shard. `None` for a duplicate.
+    /// The current document, shared with the shard.
     pub snapshot: Option<Json>,
 }
 
@@ -189,15 +189,14 @@ impl Work {
         }
     }
 
-    /// Returns the new document. For a duplicate the result is unspecified.
+    /// Returns the new document.
     ///
     /// # Errors
     ///
     /// The code with which the rebase or the document refused the content.
     pub fn snapshot(&self) -> Result<Option<&Json>, Code>
-        ensures ok { self.now.look.repeat ≡ None → IfOk result
-            (λ d. work_result self.now ≡ Ok (option_map (λ v. value_of v.now) d)) }
-        ensures err { self.now.look.repeat ≡ None → IfErr result (λ code. work_result self.now ≡ Err code) }
+        ensures ok { IfOk result (λ d. work_result self.now ≡ Ok (option_map (λ v. value_of v.now) d)) }
+        ensures err { IfErr result (λ code. work_result self.now ≡ Err code) }
     {
         match &self.new_document {
             Ok(next_document) => Ok(next_document.as_ref()),
@@ -238,20 +237,33 @@ impl Work {
     }
 
     // Takes the missed entries and drops the documents. The submission keeps a look that has it as
-    // a duplicate at `v`.
+    // a duplicate at `v`, and a document whose result needs no allocation.
     fn take_missed_entries(&mut self, alloc: Global, v: u64) -> Vec<Entry>
         ensures missed { result.items ≡ self.old.look.missed }
         ensures submission_unchanged { self.new.submission ≡ self.old.submission }
     {
+        let (snapshot, new_document) = result_without_allocation(self.attempt.submission.content());
         self.rebased = RebasedContent::Unchanged;
-        self.new_document = Ok(None);
+        self.new_document = new_document;
         self.attempt.look.repeat = Some(v);
-        self.attempt.look.snapshot = None;
+        self.attempt.look.snapshot = snapshot;
         mem::replace(&mut self.attempt.look.missed, Vec::new(alloc))
     }
 }
 
-// Applies the rebased content to the look's document. Returns `None` for a duplicate.
+// Returns a document, and the result of applying the content to it, which needs no allocation.
+fn result_without_allocation(content: &Content) -> (Option<Json>, Result<Option<Json>, Code>)
+    ensures { plain_document_result result.1 ≡
+        apply_content content.now (option_map value_of result.0) }
+{
+    match content.kind() {
+        Kind::Create(_) => (Some(Json::Null), Err(Code::E6)),
+        Kind::Delete => (None, Ok(None)),
+        Kind::Edit(_) => (None, Err(Code::E7)),
+    }
+}
+
+// Applies the rebased content to the look's document.
 fn apply_rebased(
     alloc: Global,
     attempt: &Attempt,
@@ -259,15 +271,12 @@ fn apply_rebased(
 ) -> Result<Option<Json>, Code>
     requires { rebased_content_of attempt.now.submission.content worked.now ≡
         rebase attempt.now.submission.content attempt.now.look.missed.items }
-    ensures ok { attempt.now.look.repeat ≡ None → IfOk result
+    ensures ok { IfOk result
         (λ d. work_result (plain_attempt attempt.now) ≡ Ok (option_map value_of d)) }
-    ensures err { attempt.now.look.repeat ≡ None → IfErr result
+    ensures err { IfErr result
         (λ code. IsRefusalOrOutOfMemory (work_result (plain_attempt attempt.now)) code) }
     ensures memory { IsErrOf result E10 → work_allocates (plain_attempt attempt.now) ≡ true }
 {
-    if attempt.look.repeat.is_some() {
-        return Ok(None);
-    }
     let content = match worked {
         RebasedContent::Unchanged => attempt.submission.content(),
         RebasedContent::Changed(content) => content,

@@ -64,17 +64,17 @@ room_of_rebased log s m e h =
     let f : nat_eq (length log) 9007199254740991 ≡ false = not_full (nat_eq (length log) 9007199254740991) (nat_lt (length log) (base_version log s)) r m e in
     grind (arith, nat_tests, f, h)
 
-abbrev LogInLimits : List PlainEntry → Type 0
+abbrev pub LogInLimits : List PlainEntry → Type 0
 LogInLimits log = AllContentsInLimits log × (length log ≤ 9007199254740991)
 
 in_limits_at : (P : PlainContent → Type 0) (r : Result PlainContent Code) (m : PlainContent) → r ≡ Ok m → OkInLimits P r → P m
 in_limits_at P r m e h = subst (OkInLimits P) e h
 
-record AppendInLimits (v : DumpVersion) (log : List PlainEntry) (e : PlainEntry) : Type 0 where
+pub record AppendInLimits (v : DumpVersion) (log : List PlainEntry) (e : PlainEntry) : Type 0 where
   pub fits : EntryInLimits v e
   pub some_room : length log < 9007199254740991
 
-append_in_limits : (v : DumpVersion) (log : List PlainEntry) (e : PlainEntry) → LogInLimits log → MomentInLimits v e.moment → SubmissionInLimits e.arrived
+pub append_in_limits : (v : DumpVersion) (log : List PlainEntry) (e : PlainEntry) → LogInLimits log → MomentInLimits v e.moment → SubmissionInLimits e.arrived
     → (decide log e.arrived e.moment).log ≡ log ++ e ∷ [] → AppendInLimits v log e
 append_in_limits v log e h t f d =
     let w = stored_is log e.arrived e.moment e (stored_from log e.arrived e.moment e d) in
@@ -86,7 +86,7 @@ append_in_limits v log e h t f d =
 
 -- ---- all lines
 
-contents_more : (es : List PlainEntry) (e : PlainEntry) → AllContentsInLimits es → ContentInLimits 100 e.content → AllContentsInLimits (es ++ e ∷ [])
+pub contents_more : (es : List PlainEntry) (e : PlainEntry) → AllContentsInLimits es → ContentInLimits 100 e.content → AllContentsInLimits (es ++ e ∷ [])
 contents_more [] e h k = (k, tt)
 contents_more (x ∷ es) e h k = (h.0, contents_more es e h.1 k)
 

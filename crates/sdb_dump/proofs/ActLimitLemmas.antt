@@ -162,7 +162,7 @@ over_fits side (or l w z) o h k = unchanged_in_limits (or l w z) h
 
 -- ---- components
 
-whole_length : (p : List PlainStep) (a : PlainAct) → length (full_path p a) ≡ length p + length (last_step a)
+pub whole_length : (p : List PlainStep) (a : PlainAct) → length (full_path p a) ≡ length p + length (last_step a)
 whole_length p a = length-append p (last_step a)
 
 all_at : (p : List PlainStep) (n : ℕ) (xs : List PlainAct) → StepsInLimits p → length p + n ≤ 50 → AllActsInLimits n xs → ComponentsInLimits 100 (map (component_at p) xs)

@@ -6,6 +6,7 @@ pub mod ReadBackComponents
 pub mod OffsetLemmas
 pub mod LineSplitLemmas
 pub mod DecideLemmas
+mod DocumentLimits
 pub mod EffectLimits
 pub mod EnterLemmas
 pub mod LineFeedLemmas

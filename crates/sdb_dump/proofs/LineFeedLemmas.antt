@@ -1,10 +1,9 @@
 -- Written JSON contains no line feed.
 use Rattle.std.proofs.Common.{◌≡◌, ◌≢◌, ℕ, pos, negsuc, zero, suc, ◌<◌, ◌≤◌, ◌^◌, Bool, true, false, not, ◌&&◌, ◌==◌, List, [], ◌∷◌, ◌++◌, length, get_or, decimal, inl, inr, refl, sym, subst, arith}
-use Rattle.std.specs.Prelude.{⊤}
+use Rattle.std.specs.Prelude.{⊤, ◌+◌, ◌/◌, ◌%◌, nat_lt, if◌then◌else◌}
 use Rattle.std.proofs.lemmas.Bool.{and_parts, cases_lt, cases_eq}
 use Rattle.std.proofs.lemmas.Bool.Decides.{nat_tests}
-use Rattle.std.proofs.lemmas.Fmt.{decimal_is_IsNumeral}
-use Rattle.std.proofs.lemmas.Str.Parse.{digit_at}
+use Rattle.std.specs.Fmt.{digits, digits_onto, digit_glyph}
 use Rattle.json.specs.Print.{escape_byte, escape, quoted, token_text}
 use Rattle.json.specs.Token as token
 use Rattle.json.proofs.Printed.Strings.{escape_byte_plain}
@@ -60,19 +59,29 @@ escape_line (x ∷ s) = line_append (escape_byte x) (escape s) (byte_line x) (es
 quoted_line : (s : List ℕ) → HasNoLineFeed (quoted s)
 quoted_line s = ((λ e. omega arith), line_append (escape s) (34 ∷ []) (escape_line s) (line_of (34 ∷ []) refl))
 
-digits_line : (ds : List ℕ) → ((i : ℕ) → i < length ds → 48 ≤ get_or ds i 0) → HasNoLineFeed ds
-digits_line [] h = tt
-digits_line (d ∷ ds) h =
-    let first : 48 ≤ d = h 0 (omega arith) in
-    ((λ e. omega (arith, first, e)), digits_line ds (λ i l. h (suc i) (omega arith)))
+either_line : (b : Bool) (xs ys : List ℕ) → HasNoLineFeed xs → HasNoLineFeed ys → HasNoLineFeed (if b then xs else ys)
+either_line true xs ys h k = h
+either_line false xs ys h k = k
 
-decimal_line : (n : ℕ) → n < 2 ^ 64 → HasNoLineFeed (decimal n)
-decimal_line n h = digits_line (decimal n) (λ i l. (digit_at (decimal n) i (decimal_is_IsNumeral n h).0.1 l).0)
+glyph_line : (b : Bool) (d : ℕ) → (if b then 48 + d else 87 + d) ≢ 10
+glyph_line true d e = omega (arith, e)
+glyph_line false d e = omega (arith, e)
+
+digits_line : (k n : ℕ) (ds : List ℕ) → HasNoLineFeed ds → HasNoLineFeed (digits_onto k 10 false n ds)
+digits_line zero n ds h = h
+digits_line (suc k) n ds h =
+    let more : HasNoLineFeed (digit_glyph false (n % 10) ∷ ds) = (glyph_line (nat_lt (n % 10) 10) (n % 10), h) in
+    either_line (n / 10 == 0) (digit_glyph false (n % 10) ∷ ds) (digits_onto k 10 false (n / 10) (digit_glyph false (n % 10) ∷ ds)) more
+    (digits_line k (n / 10) (digit_glyph false (n % 10) ∷ ds) more)
+
+decimal_line : (n : ℕ) → HasNoLineFeed (decimal n)
+unfolding digits
+decimal_line n = digits_line 64 n [] tt
 
 number_line : (n : Num) → IsSafeNumber n → HasNoLineFeed (number_text n)
-number_line (unsigned n) h = decimal_line n h
+number_line (unsigned n) h = decimal_line n
 number_line (negative (pos n)) h = absurd h
-number_line (negative (negsuc n)) h = ((λ e. omega arith), decimal_line (suc n) (omega (arith, h)))
+number_line (negative (negsuc n)) h = ((λ e. omega arith), decimal_line (suc n))
 number_line (float x) h = absurd h
 
 truth_line : (b : Bool) → HasNoLineFeed (token_text (token.boolean b))
@@ -103,3 +112,10 @@ mutual
       line_append (comma_if later) _ (comma_line later)
       (line_append (quoted k) _ (quoted_line k)
       ((λ e. omega arith), line_append (compact_text d) _ (compact_line d h.1) (members_line true ms h.3)))
+
+-- an object of one number, however great
+pub number_member_line : (k : List ℕ) (n : ℕ) → HasNoLineFeed (compact_text (object (member k (number (unsigned n)) no_members)))
+number_member_line k n = (
+  (λ e. omega arith),
+  line_append (quoted k) _ (quoted_line k) ((λ e. omega arith), line_append (decimal n) _ (decimal_line n) (line_of (125 ∷ []) refl)),
+)

@@ -10,12 +10,11 @@ use Rattle.sdb_dump.specs.declared.version.DumpVersion.TheVariants.{One, Two}
 use Rattle.sdb_dump.specs.DumpLine.{dump_version_number, written_moment, line_data}
 use Rattle.sdb_dump.proofs.ReadBackEntries.{line_sound, shown_counts}
 use Rattle.sdb_dump.specs.laws.SoundData.{IsSoundData}
-use Rattle.json.proofs.Printed.Utf8.{are_ascii, IsUtf8-are_ascii}
 use Rattle.serde_json.specs.Data.{number, unsigned, object, no_members, member}
 use Rattle.sdb_dump.specs.LineSplit.{cons_line, split_lines, check_text}
 use Rattle.sdb_dump.proofs.LineFeedLemmas.{HasNoLineFeed}
 use Rattle.sdb_dump.specs.EntryLimits.{AllKeysInLimits}
-use Rattle.sdb_dump.proofs.LineFeedLemmas.{compact_line}
+use Rattle.sdb_dump.proofs.LineFeedLemmas.{compact_line, number_member_line}
 use Rattle.sdb_dump.proofs.LimitLemmas.{all_within}
 
 -- ---- the lines concatenated are the text
@@ -54,21 +53,14 @@ text_lines v (x ∷ xs) last h k =
     let o = written_moment v x.entry.moment in
     (compact_line (line_data x.key x.entry o) (line_sound v x.key x.entry o h.0 h.1 (shown_counts v x.entry.moment h.1.moment)), text_lines v xs last h.2 k)
 
-one_member : (k : List ℕ) (n : ℕ) → are_ascii k ≡ true → n < 2 ^ 64 → IsSoundData (object (member k (number (unsigned n)) no_members))
-one_member k n e h = (IsUtf8-are_ascii k e, h, tt, tt)
-
-version_number_fits : (v : DumpVersion) → dump_version_number v < 2 ^ 64
-version_number_fits One = omega arith
-version_number_fits Two = omega arith
-
-dump_are_lines : (v : DumpVersion) (xs : List PlainLine) → IsDumpOfLogs xs → AllInLimits v xs → length xs < 2 ^ 64 → HaveNoLineFeeds (dump_lines v xs)
-dump_are_lines v xs d f few = (
-  compact_line (object (member (codes "dump") (number (unsigned (dump_version_number v))) no_members)) (one_member (codes "dump") (dump_version_number v) refl (version_number_fits v)),
-  text_lines v xs (count_line (length xs)) (all_fit v xs d f) (compact_line (object (member (codes "entries") (number (unsigned (length xs))) no_members)) (one_member (codes "entries") (length xs) refl few)),
+dump_are_lines : (v : DumpVersion) (xs : List PlainLine) → IsDumpOfLogs xs → AllInLimits v xs → HaveNoLineFeeds (dump_lines v xs)
+dump_are_lines v xs d f = (
+  number_member_line (codes "dump") (dump_version_number v),
+  text_lines v xs (count_line (length xs)) (all_fit v xs d f) (number_member_line (codes "entries") (length xs)),
 )
 
-pub text_accepted : (v : DumpVersion) (xs : List PlainLine) → IsDumpOfLogs xs → AllInLimits v xs → length xs < 2 ^ 64 → check_text (dump_text v xs) ≡ Ok xs
-text_accepted v xs d f few = ap (λ c. check c.ended c.rest) (cut_lines (dump_lines v xs) (dump_are_lines v xs d f few)) ∙ dumps_accepted v xs d f
+pub text_accepted : (v : DumpVersion) (xs : List PlainLine) → IsDumpOfLogs xs → AllInLimits v xs → check_text (dump_text v xs) ≡ Ok xs
+text_accepted v xs d f = ap (λ c. check c.ended c.rest) (cut_lines (dump_lines v xs) (dump_are_lines v xs d f)) ∙ dumps_accepted v xs d f
 
 -- an accepted text is a dump, and within the limits if its keys and submissions are
 pub text_next : (t : List ℕ) (xs : List PlainLine) → check_text t ≡ Ok xs

@@ -269,10 +269,10 @@ dumped_lines text xs e h =
 
 pub text_is_of_logs : TextIsOfLogs
 text_is_of_logs = record {
-  accepted = λ v f text h few (ks, stored, is).
+  accepted = λ v f text h (ks, stored, is).
       let xs = lines_of_logs f ks in
       let d = logs_are_dumped f ks stored h.made in
-      (xs, ap check_text is ∙ text_accepted v xs d.0 (within_logs v f ks h.within) (few (length xs) (ks, stored, refl)), d.1);
+      (xs, ap check_text is ∙ text_accepted v xs d.0 (within_logs v f ks h.within), d.1);
   only = λ text xs e.
       let (v, is, d) = text_only text xs e in
       (v, subst (DumpText v (log_of_lines xs)) (sym is) (dump_of_logs v xs d), d.made);

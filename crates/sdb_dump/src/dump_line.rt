@@ -2,7 +2,6 @@
 ghost use Rattle.std.specs.Prelude.{◌≡◌, ◌++◌, [], IfOk, IfSome, OnOk, option_map, codes};
 ghost use Rattle.json.specs.Print.{print};
 ghost use Rattle.serde_json.specs.Data.{Data, Members, member, no_members};
-ghost use Rattle.sdb_json.specs.JsonTree.{view as tree_view};
 ghost use Rattle.sdb_value.specs.ToJson.{data_tokens, object_tail_tokens};
 ghost use Rattle.sdb_oplog.specs.Keys.{plain_key};
 ghost use Rattle.sdb_dump.specs.DumpLine.{written_moment, arrived_members, arrived_data, push_moment, content_members_with_moment, line_tail, line_data, line_text, arrived_of_data, sent_of_data, submission_of_data, moment_of_data, line_of_data, read_line};
@@ -14,7 +13,7 @@ use crate::version::DumpVersion;
 use json::Writer;
 use sdb_component::laws::read_keeps_limits;
 use sdb_component::write_op;
-use sdb_json::{JsonData, JsonTree, Scratch};
+use sdb_json::{JsonData, Scratch, parse_json};
 use sdb_oplog::{Code, Content, Entry, Key, Kind, Moment, Submission};
 use sdb_wire::{
     count_field, moment_of as moment_in, optional_count, read_content, read_key, refusal_code,
@@ -205,18 +204,18 @@ pub(crate) fn read_line(
         return Ok(None);
     };
     let mut scratch = Scratch::new(alloc);
-    match JsonTree::from_str(alloc, text, &mut scratch)? {
+    match parse_json(alloc, text, &mut scratch)? {
         Some(value) => read_line_data(alloc, version, &value),
         None => Ok(None),
     }
 }
 
-fn read_line_data(
+fn read_line_data<D: JsonData>(
     alloc: Global,
     version: DumpVersion,
-    value: &JsonTree<'_>,
+    value: &D,
 ) -> Result<Option<LineContent>, AllocError>
-    ensures line { IfOk result (λ l. option_map plain_line_content l ≡ line_of_data version (tree_view value.now)) }
+    ensures line { IfOk result (λ l. option_map plain_line_content l ≡ line_of_data version (D.json value.now)) }
     ensures in_limits { IfOk result (λ l. IfSome l (λ l. KeyInLimits (plain_key l.key)
         × SubmissionInLimits l.submission)) }
 {
@@ -239,8 +238,8 @@ fn read_line_data(
     }))
 }
 
-fn read_moment(version: DumpVersion, value: &JsonTree<'_>) -> Option<Moment>
-    ensures { result ≡ moment_of_data version (tree_view value.now) }
+fn read_moment<D: JsonData>(version: DumpVersion, value: &D) -> Option<Moment>
+    ensures { result ≡ moment_of_data version (D.json value.now) }
 {
     match version {
         DumpVersion::One => Some(Moment::zero()),
@@ -248,8 +247,8 @@ fn read_moment(version: DumpVersion, value: &JsonTree<'_>) -> Option<Moment>
     }
 }
 
-fn read_submission(alloc: Global, value: &JsonTree<'_>) -> Result<Option<Submission>, AllocError>
-    ensures { IfOk result (λ s. s ≡ submission_of_data (tree_view value.now)) }
+fn read_submission<D: JsonData>(alloc: Global, value: &D) -> Result<Option<Submission>, AllocError>
+    ensures { IfOk result (λ s. s ≡ submission_of_data (D.json value.now)) }
 {
     let Some(arrived) = value.get("arrived") else {
         return Ok(None);
@@ -264,14 +263,14 @@ fn read_submission(alloc: Global, value: &JsonTree<'_>) -> Result<Option<Submiss
 }
 
 // Reads the source, the collection name and the pass number of a submission.
-fn read_sent(
+fn read_sent<D: JsonData>(
     alloc: Global,
-    value: &JsonTree<'_>,
+    value: &D,
     content: Content,
     version: Option<u64>,
     seq: u64,
 ) -> Result<Option<Submission>, AllocError>
-    ensures { IfOk result (λ s. s ≡ sent_of_data (tree_view value.now) (content, version) seq) }
+    ensures { IfOk result (λ s. s ≡ sent_of_data (D.json value.now) (content, version) seq) }
 {
     let Some(src) = none_if_refused(required_name(alloc, value, "src"))? else {
         return Ok(None);
@@ -286,11 +285,11 @@ fn read_sent(
     Ok(Some(submission))
 }
 
-fn read_arrived(
+fn read_arrived<D: JsonData>(
     alloc: Global,
-    value: &JsonTree<'_>,
+    value: &D,
 ) -> Result<Option<(Content, Option<u64>)>, AllocError>
-    ensures { IfOk result (λ a. a ≡ arrived_of_data (tree_view value.now)) }
+    ensures { IfOk result (λ a. a ≡ arrived_of_data (D.json value.now)) }
 {
     let Some(content) = none_if_refused(read_content(alloc, value))? else {
         return Ok(None);

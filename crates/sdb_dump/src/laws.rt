@@ -3,7 +3,7 @@ ghost use Rattle.sdb_dump.specs.DumpLaws.{TransformKeepsLimits, DumpsOfLogsAccep
 ghost use Rattle.sdb_dump.specs.LineSplit.{TextIsExact};
 ghost use Rattle.sdb_dump.specs.CheckLaws.{CheckIsExact, LineReadsBack};
 ghost use Rattle.sdb_dump.specs.LogListing.{LogsAreDumped};
-ghost use Rattle.sdb_dump.specs.LogDumps.{TextIsOfLogs};
+ghost use Rattle.sdb_dump.specs.LogDumps.{DocumentsAreBounded, TextIsOfLogs};
 ghost use Rattle.sdb_dump.specs.PrintLaws.{PrintedReadsBack, PrintedIsText};
 ghost use Rattle.sdb_dump.specs.CheckStages.{StagesAreCheck};
 
@@ -48,6 +48,13 @@ pub fn logs_are_dumped()
 /// States that a text is accepted if and only if it is a dump.
 pub fn text_is_exact()
     ensures { TextIsExact }
+{}
+
+/// States that the document of a made log within the limits, at any version, is well formed and at
+/// most 100 deep: a path has at most 50 steps, and a value that an operation inserts is at most 50
+/// deep.
+pub fn documents_are_bounded()
+    ensures { DocumentsAreBounded }
 {}
 
 /// States that a text is accepted if and only if it is the dump of made logs within the limits, and

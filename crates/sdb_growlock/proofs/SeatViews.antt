@@ -23,12 +23,12 @@ module _ {T : Type 0} where
   none_of_not_out None e = refl
 
   -- the view that the invariant of a seat gives
-  pub idle_view_of_fields : (m : M T) (n k : ℕ) → length m.1 ≡ 0 → map number_of m.0.seen ≡ n ∷ [] → is_out m.0.out ≡ false → m.0.next ≡ k → (x : T) × (m ≡ (idle_view n x k, []))
-  idle_view_of_fields m n k none one out next = let s = single_observation m.0.seen n one in let o = none_of_not_out m.0.out out in let c = empty_of_length_zero m.1 none in
-      (s.0, λ i. (record { seen = s.1 i; out = o i; next = next i }, c i))
+  pub idle_view_of_fields : (m : M T) (n k : ℕ) → length m.1 ≡ 0 → map number_of m.0.seen ≡ n ∷ [] → is_out m.0.out ≡ false → m.0.next ≡ k → length m.0.notes ≡ 0 → (x : T) × (m ≡ (idle_view n x k, []))
+  idle_view_of_fields m n k none one out next noted = let s = single_observation m.0.seen n one in let o = none_of_not_out m.0.out out in let c = empty_of_length_zero m.1 none in let e = empty_of_length_zero m.0.notes noted in
+      (s.0, λ i. (record { seen = s.1 i; out = o i; next = next i; notes = e i }, c i))
 
-  pub fields_of_idle_view : (m : M T) (n k : ℕ) (x : T) → m ≡ (idle_view n x k, []) → (length m.1 ≡ 0) × (map number_of m.0.seen ≡ n ∷ []) × (is_out m.0.out ≡ false) × (m.0.next ≡ k)
-  fields_of_idle_view m n k x e = subst (λ (m : M T). (length m.1 ≡ 0) × (map number_of m.0.seen ≡ n ∷ []) × (is_out m.0.out ≡ false) × (m.0.next ≡ k)) (sym e) (refl, refl, refl, refl)
+  pub fields_of_idle_view : (m : M T) (n k : ℕ) (x : T) → m ≡ (idle_view n x k, []) → (length m.1 ≡ 0) × (map number_of m.0.seen ≡ n ∷ []) × (is_out m.0.out ≡ false) × (m.0.next ≡ k) × (length m.0.notes ≡ 0)
+  fields_of_idle_view m n k x e = subst (λ (m : M T). (length m.1 ≡ 0) × (map number_of m.0.seen ≡ n ∷ []) × (is_out m.0.out ≡ false) × (m.0.next ≡ k) × (length m.0.notes ≡ 0)) (sym e) (refl, refl, refl, refl, refl)
 
   -- the value that the seat takes out is the one that moved to it
   pub same_value : (v y d : T) (c c' : List (ℕ × Option T)) (r : Option T) (l : List (ℕ × Option T)) → l ≡ (0, Some v) ∷ c → l ≡ (0, r) ∷ c' → r ≡ Some y → v ≡ y

@@ -10,7 +10,7 @@ use Rattle.atomic_table.specs.Table.{State, Me, step, keeps, takes, gives, stepp
 use Rattle.atomic_table.proofs.Lists.{at_set, set_again, set_here, set_else, at_longer}
 use Rattle.sdb_growlock.specs.declared.view.View.{View}
 use Rattle.sdb_growlock.specs.declared.view.Observation.{Observation}
-use Rattle.sdb_growlock.specs.LockRule.{ForEach, observation, idle_view, holder_view, observe_all, acquired_view, ObservationFits, ViewInvariant, LockInvariant, acquire_step, release_step, read_step, splitter_view, split_off_view, join_views, empty_view}
+use Rattle.sdb_growlock.specs.LockRule.{ForEach, observation, idle_view, holder_view, observe_all, acquired_view, ObservationFits, ViewInvariant, LockInvariant, acquire_step, release_step, read_step, compare_step, note_view, splitter_view, split_off_view, join_views, empty_view}
 
 module _ {A : Type 0} where
   pub index_in_bounds : (l : List A) (i : ℕ) (a : A) → get_elem? l i ≡ some a → i < length l
@@ -57,6 +57,7 @@ module _ {T : Type 0} (extends : T → T → Type 0) (same : ℕ → T → T →
     observations_fit = (record { below_next = omega arith; owner_is = refl; extends_observed = itself x; same_as_observed = same_itself 0 x; blank_above = λ k h. clear k (omega arith) }, tt);
     out = λ y e. absurd (cc);
     first_has_next = λ _. (refl, refl);
+    notes_extended = tt;
   }
   initial_view_invariant x itself same_itself clear (suc j) d e = absurd (some-ne-none d (sym e))
 
@@ -100,11 +101,13 @@ module _ {T : Type 0} (extends : T → T → Type 0) (same : ℕ → T → T →
           observations_fit = observe_all_fits r.value r.next r.owner id r.value r.blank_above d.seen mine.observations_fit;
           out = λ y e. ((λ z. absurd (omega arith)), cc, f.owner_is);
           first_has_next = mine.first_has_next;
+          notes_extended = mine.notes_extended;
         } in
         let old : (j : ℕ) (e : View T) → j ≢ id → get_elem? s.views j ≡ some e → ViewInvariantHere 1 r.value r.next r.owner n j e = λ j e _ p. let k = r.views_known j e p in record {
           observations_fit = k.observations_fit;
           out = λ y o. absurd ((k.out y o).0 free);
           first_has_next = k.first_has_next;
+          notes_extended = k.notes_extended;
         } in record {
           value = r.value;
           next = r.next;
@@ -132,6 +135,7 @@ module _ {T : Type 0} (extends : T → T → Type 0) (same : ℕ → T → T →
             observations_fit = k.observations_fit;
             out = λ y o. let t = k.out y o in ((λ z. absurd (omega arith)), t.1, t.2);
             first_has_next = k.first_has_next;
+            notes_extended = k.notes_extended;
           };
           value_at_home = λ z. absurd (omega arith);
           value_is_out = λ _. r.value_is_out busy;
@@ -158,6 +162,7 @@ module _ {T : Type 0} (extends : T → T → Type 0) (same : ℕ → T → T →
             observations_fit = (record { below_next = f.below_next; owner_is = f.owner_is; extends_observed = itself w; same_as_observed = same_itself n w; blank_above = clear }, tt);
             out = λ y e. absurd (cc);
             first_has_next = mine.first_has_next;
+            notes_extended = tt;
           } in
           let old : (j : ℕ) (e : View T) → j ≢ id → get_elem? s.views j ≡ some e → ViewInvariantHere 0 w r.next r.owner r.holder_number j e = λ j e ne p. let q = r.views_known j e p in record {
             observations_fit = for_each_mono (FitsHere r.value r.next r.owner j) (FitsHere w r.next r.owner j) (λ p g. record {
@@ -169,6 +174,7 @@ module _ {T : Type 0} (extends : T → T → Type 0) (same : ℕ → T → T →
             }) e.seen q.observations_fit;
             out = λ y u. absurd (ne (sym (q.out y u).2 ∙ o.2));
             first_has_next = q.first_has_next;
+            notes_extended = for_each_mono (extends r.value) (extends w) (λ x g. further x r.value w grown' g) e.notes q.notes_extended;
           } in record {
             value = w;
             next = r.next;
@@ -211,6 +217,71 @@ module _ {T : Type 0} (extends : T → T → Type 0) (same : ℕ → T → T →
   at_end [] a b (suc j) e = absurd (some-ne-none b (sym e))
   at_end (x ∷ xs) a b zero e = inl e
   at_end (x ∷ xs) a b (suc j) e = ⊎_elim (λ h. inl h) (λ h. inr (h.0, ap suc h.1)) (at_end xs a b j e)
+
+  -- ---- notes
+
+  -- a view without its notes
+  abbrev without_notes : View T → View T
+  without_notes d = record { seen = d.seen; out = d.out; next = d.next; notes = [] }
+
+  compare_preserves : (s : St) (r : Rule s) (id : ℕ) (d : View T) (c : List (ℕ × Option T)) → get_elem? s.views id ≡ some d → Rule (stepped s 0 (get_or s.words 0 0) id c (without_notes d) keeps)
+  compare_preserves s r id d c at = let w : View T = without_notes d in let vs : List (View T) = set s.views id w in let mine = r.views_known id d at in
+      let Q : ℕ → View T → Type 0 = ViewInvariantHere (lock_word s) r.value r.next r.owner r.holder_number in
+      let here : Q id w = record { observations_fit = mine.observations_fit; out = mine.out; first_has_next = mine.first_has_next; notes_extended = tt } in
+      subst (λ (z : List ℕ). Rule record { words = z; homes = s.homes; views = vs }) (sym (set-get_or s.words 0 0)) record {
+        value = r.value;
+        next = r.next;
+        owner = r.owner;
+        holder_number = r.holder_number;
+        one_word = r.one_word;
+        blank_above = r.blank_above;
+        views_known = others_unchanged Q s.views id w here (λ j e _ p. r.views_known j e p);
+        value_at_home = r.value_at_home;
+        value_is_out = λ busy. let t = r.value_is_out busy in let f : View T = t.1.0 in (
+          t.0,
+          dite (ℕ_discrete (r.owner r.holder_number) id)
+              (λ is. (
+                w,
+                subst (λ j. get_elem? vs j ≡ some w) (sym is) (set_here s.views id w (index_in_bounds s.views id d at)),
+                ap (λ (z : View T). z.out) (some-injective d f (sym at ∙ (ap (get_elem? s.views) (sym is) ∙ t.1.1))) ∙ t.1.2,
+              ))
+              (λ not. (f, set_else s.views id (r.owner r.holder_number) w not ∙ t.1.1, t.1.2)),
+        );
+      }
+
+  pub compare_allowed : (slots id : ℕ) (me : M) → Allows Rule slots id me 0 (λ n. n) (compare_step extends same blank (step slots 0 0 0 none) me)
+  compare_allowed slots id me s r _ at _ = let mine = r.views_known id me.0 at in (
+    without_notes me.0,
+    keeps,
+    tt,
+    compare_preserves s r id me.0 me.1 at,
+    (refl, (r.value, for_each_mono (FitsHere r.value r.next r.owner id) (λ p. extends r.value p.value) (λ p f. f.extends_observed) me.0.seen mine.observations_fit, mine.notes_extended)),
+  )
+
+  pub note_allowed : (id : ℕ) (v : View T) → Splits Rule id v v (note_view v)
+  note_allowed id v s r at = let new : View T = note_view v in let vs : List (View T) = set s.views id v in
+      let same_views : vs ≡ s.views = set_again s.views id v at in let mine = r.views_known id v at in
+      let Q : ℕ → View T → Type 0 = ViewInvariantHere (lock_word s) r.value r.next r.owner r.holder_number in
+      let last : Q (length vs) new = record {
+        observations_fit = tt;
+        out = λ y e. absurd (some_none y (sym e));
+        first_has_next = λ h. absurd (h refl);
+        notes_extended = for_each_map (extends r.value) (λ (p : Observation T). p.value) v.seen
+            (for_each_mono (FitsHere r.value r.next r.owner id) (λ p. extends r.value p.value) (λ p f. f.extends_observed) v.seen mine.observations_fit);
+      } in record {
+        value = r.value;
+        next = r.next;
+        owner = r.owner;
+        holder_number = r.holder_number;
+        one_word = r.one_word;
+        blank_above = r.blank_above;
+        views_known = λ j e p. ⊎_elim (λ (h : get_elem? vs j ≡ some e). r.views_known j e (subst (λ (l : List (View T)). get_elem? l j ≡ some e) same_views h))
+            (λ (h : (new ≡ e) × (j ≡ length vs)). subst (λ (z : ℕ × View T). Q z.0 z.1) (λ i. (sym h.1 i, h.0 i)) last)
+            (at_end vs new e j p);
+        value_at_home = r.value_at_home;
+        value_is_out = λ busy. let t = r.value_is_out busy in
+            (t.0, (t.1.0, at_longer vs (new ∷ []) (r.owner r.holder_number) t.1.0 (subst (λ (l : List (View T)). get_elem? l (r.owner r.holder_number) ≡ some t.1.0) (sym same_views) t.1.1), t.1.2));
+      }
 
   -- number k belongs to this seat, and each other number to its old seat
   abbrev at_split : (ℕ → ℕ) → ℕ → ℕ → ℕ → ℕ
@@ -257,14 +328,16 @@ module _ {T : Type 0} (extends : T → T → Type 0) (same : ℕ → T → T →
             (λ some_next. let f = mine.first_has_next some_next in dite (ℕ_discrete w.next 0)
             (λ z. (let q = f.0 in omega arith, kept_id 0 f.1))
             (λ more. absurd (apart (sym (its.first_has_next more).1 ∙ f.1))));
+        notes_extended = for_each_append (extends r.value) v.notes w.notes mine.notes_extended its.notes_extended;
       } in
       let others : (j : ℕ) (e : View T) → j ≢ id → get_elem? s.views j ≡ some e → j ≢ other → Q j e = λ j e _ p ne. let q = r.views_known j e p in
       let stays : (n : ℕ) → r.owner n ≡ j → O n ≡ j = λ n h. at_join_else r.owner other id n (λ g. ne (sym h ∙ g)) ∙ h in record {
         observations_fit = fits_of_join s r other id j j stays e.seen q.observations_fit;
         out = λ y o. let t = q.out y o in (t.0, t.1, stays r.holder_number t.2);
         first_has_next = λ h. let f = q.first_has_next h in (f.0, stays 0 f.1);
+        notes_extended = q.notes_extended;
       } in
-      let last : Q other empty_view = record { observations_fit = tt; out = λ y e. absurd (some_none y (sym e)); first_has_next = λ h. absurd (h refl) } in record {
+      let last : Q other empty_view = record { observations_fit = tt; out = λ y e. absurd (some_none y (sym e)); first_has_next = λ h. absurd (h refl); notes_extended = tt } in record {
         value = r.value;
         next = r.next;
         owner = O;
@@ -307,11 +380,13 @@ module _ {T : Type 0} (extends : T → T → Type 0) (same : ℕ → T → T →
           observations_fit = fits_of_split s r seat id v.seen mine.observations_fit;
           out = λ y e. absurd (cc);
           first_has_next = λ _. (ap (λ z. z + 1) is, at_split_else r.owner r.next seat 0 (λ e. absurd (omega arith)) ∙ f.1);
+          notes_extended = tt;
         } in
         let others : (j : ℕ) (e : View T) → j ≢ id → get_elem? s.views j ≡ some e → Q j e = λ j e ne p. let q = r.views_known j e p in record {
           observations_fit = fits_of_split s r seat j e.seen q.observations_fit;
           out = λ y o. let t = q.out y o in (t.0, t.1, own_turn t.0 ∙ t.2);
           first_has_next = λ h. absurd (ne (sym (q.first_has_next h).1 ∙ f.1));
+          notes_extended = q.notes_extended;
         } in
         let fits = mine.observations_fit.0 in
         let last : Q seat new = record {
@@ -327,6 +402,7 @@ module _ {T : Type 0} (extends : T → T → Type 0) (same : ℕ → T → T →
           );
           out = λ y e. absurd (cc);
           first_has_next = λ h. absurd (h refl);
+          notes_extended = tt;
         } in record {
           value = r.value;
           next = N;

@@ -16,21 +16,25 @@ module _ {T : Type 0} where
 
   -- a seat that doesn't hold the lock
   abbrev pub idle_view : ℕ → T → ℕ → View T
-  idle_view n x k = record { seen = observation n x ∷ []; out = None; next = k }
+  idle_view n x k = record { seen = observation n x ∷ []; out = None; next = k; notes = [] }
 
   -- a seat that holds the lock
   abbrev pub holder_view : ℕ → T → ℕ → View T
-  holder_view n x k = record { seen = observation n x ∷ []; out = Some x; next = k }
+  holder_view n x k = record { seen = observation n x ∷ []; out = Some x; next = k; notes = [] }
 
   -- this value observed under each of the numbers
   abbrev pub observe_all : T → List (Observation T) → List (Observation T)
   observe_all v l = map (λ p. observation p.number v) l
 
   abbrev pub acquired_view : View T → T → View T
-  acquired_view d v = record { seen = observe_all v d.seen; out = Some v; next = d.next }
+  acquired_view d v = record { seen = observe_all v d.seen; out = Some v; next = d.next; notes = d.notes }
 
   abbrev pub released_view : View T → T → View T
-  released_view d v = record { seen = observe_all v d.seen; out = None; next = d.next }
+  released_view d v = record { seen = observe_all v d.seen; out = None; next = d.next; notes = d.notes }
+
+  -- a view without its notes
+  abbrev pub without_notes : View T → View T
+  without_notes d = record { seen = d.seen; out = d.out; next = d.next; notes = [] }
 
   abbrev pub number_of : Observation T → ℕ
   number_of p = p.number
@@ -56,6 +60,7 @@ module _ {T : Type 0} (extends : T → T → Type 0) (same : ℕ → T → T →
     pub observations_fit : ForEach (ObservationFits value next owner j) d.seen
     pub out : (x : T) → d.out ≡ Some x → (word ≢ 0) × (x ≡ value) × (owner turn ≡ j)
     pub first_has_next : d.next ≢ 0 → (d.next ≡ next) × (owner 0 ≡ j)
+    pub notes_extended : ForEach (extends value) d.notes
 
   pub record LockInvariant (s : State (Option T) (View T)) : Type 0 where
     pub value : T
@@ -85,20 +90,30 @@ module _ {T : Type 0} (extends : T → T → Type 0) (same : ℕ → T → T →
   abbrev pub read_step : Step (Option T) → SeatState → ℕ → SeatState → Type 0
   read_step st m r m' = (m' ≡ m) × (m.0.next ≢ 0 → ForEach (λ p. blank m.0.next p.value) m.0.seen)
 
+  -- the seat observes that one value extends what it has observed and its notes, and drops the notes
+  abbrev pub compare_step : Step (Option T) → SeatState → ℕ → SeatState → Type 0
+  compare_step st m r m' =
+      (m' ≡ (without_notes m.0, m.1))
+      × ((v : T) × ForEach (λ p. extends v p.value) m.0.seen × ForEach (extends v) m.0.notes)
+
 module _ {T : Type 0} where
   -- the first seat after a split, and the new seat
   abbrev pub splitter_view : View T → View T
-  splitter_view d = record { seen = d.seen; out = d.out; next = d.next + 1 }
+  splitter_view d = record { seen = d.seen; out = d.out; next = d.next + 1; notes = d.notes }
 
   abbrev pub split_off_view : View T → View T
-  split_off_view d = record { seen = map (λ p. observation d.next p.value) d.seen; out = None; next = 0 }
+  split_off_view d = record { seen = map (λ p. observation d.next p.value) d.seen; out = None; next = 0; notes = [] }
 
   -- a seat after a join, and the joined one
   abbrev pub join_views : View T → View T → View T
-  join_views d e = record { seen = d.seen ++ e.seen; out = d.out; next = d.next + e.next }
+  join_views d e = record { seen = d.seen ++ e.seen; out = d.out; next = d.next + e.next; notes = d.notes ++ e.notes }
 
   abbrev pub empty_view : View T
-  empty_view = record { seen = []; out = None; next = 0 }
+  empty_view = record { seen = []; out = None; next = 0; notes = [] }
+
+  -- a view without a number, which has a seat's observed values as notes
+  abbrev pub note_view : View T → View T
+  note_view d = record { seen = []; out = None; next = 0; notes = map (λ p. p.value) d.seen }
 
   -- a seat after the join of all others, the last of the list first
   abbrev pub join_all_views : View T → List (View T) → View T

@@ -40,7 +40,7 @@ pub struct Seat<T> {
     pub(crate) next: u64,
     pub(crate) inner: TableSeat<T>,
     ghost is_idle: { (length inner.me.1 ≡ 0) × (map number_of inner.me.0.seen ≡ number ∷ [])
-        × (is_out inner.me.0.out ≡ false) × (inner.me.0.next ≡ next) },
+        × (is_out inner.me.0.out ≡ false) × (inner.me.0.next ≡ next) × (length inner.me.0.notes ≡ 0) },
 }
 
 impl<T> Seat<T> {

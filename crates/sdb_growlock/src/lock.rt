@@ -5,7 +5,9 @@ ghost use Rattle.sdb_growlock.specs.SeatModel.{BelongsTo, HasSeen, number, next,
 
 use crate::grow_lock::{GrowLock, Seat};
 use crate::grows::{Grows, Job};
-use crate::rule::{AcquireStep, ReadStep, ReleaseStep, SplitJoinStep, TableSeat};
+use crate::rule::{
+    AcquireStep, CompareStep, NoteStep, ReadStep, ReleaseStep, SplitJoinStep, TableSeat,
+};
 use atomic_table::{Refused, Table};
 use std::alloc::Global;
 use std::hint::spin_loop;
@@ -112,6 +114,24 @@ impl<T: Grows> GrowLock<T> {
             next: 0,
             inner,
         })
+    }
+
+    /// Compares what two seats have observed: one value extends both. Neither seat observes anything
+    /// new. It doesn't wait.
+    pub fn compare(&self, first: &mut Seat<T>, second: &mut Seat<T>)
+        requires belongs { BelongsTo first.old self.now × BelongsTo second.old self.now }
+        ensures first_unchanged { BelongsTo first.new self.now × (number first.new ≡ number first.old)
+            × (next first.new ≡ next first.old) }
+        ensures second_unchanged { BelongsTo second.new self.now × (number second.new ≡ number second.old)
+            × (next second.new ≡ next second.old) }
+        ensures extended { (x y v : T) × HasSeen first.old x × HasSeen first.new x × HasSeen second.old y
+            × HasSeen second.new y × T.extends v x × T.extends v y }
+    {
+        let note = self.table.shared.split_seat::<NoteStep>(&mut first.inner);
+        self.table
+            .shared
+            .join_seat::<SplitJoinStep>(&mut second.inner, note);
+        self.table.shared.load::<CompareStep>(&mut second.inner, 0);
     }
 
     /// Returns the value, given all seats of the lock. It extends what each seat has observed, has

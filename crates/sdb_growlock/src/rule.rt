@@ -1,5 +1,5 @@
 //! The rule of the table, and the effect of each step on the seat that makes it.
-ghost use Rattle.sdb_growlock.specs.LockRule.{LockInvariant, idle_view, acquire_step, release_step, read_step, splitter_view, split_off_view, join_views, empty_view};
+ghost use Rattle.sdb_growlock.specs.LockRule.{LockInvariant, idle_view, acquire_step, release_step, read_step, compare_step, splitter_view, split_off_view, join_views, empty_view, note_view};
 
 use crate::grows::Grows;
 use crate::view::View;
@@ -35,6 +35,23 @@ pub struct ReadStep;
 
 impl<T: Grows> Play<Option<T>, View<T>> for ReadStep {
     ghost then = { read_step T.extends T.same T.blank };
+}
+
+/// Reads the word. The seat also observes that one value extends what it has observed and its notes.
+/// The notes are then gone.
+pub struct CompareStep;
+
+impl<T: Grows> Play<Option<T>, View<T>> for CompareStep {
+    ghost then = { compare_step T.extends T.same T.blank };
+}
+
+/// Splits off a seat that has the observed values as notes.
+pub struct NoteStep;
+
+impl<T> Split<View<T>> for NoteStep {
+    ghost left = { λ d. d };
+
+    ghost right = { note_view };
 }
 
 /// Splits a seat in two, and joins two seats.

@@ -8,10 +8,11 @@ pub struct Observation<T> {
 }
 
 /// The view of a seat: the observation of each of its numbers, the value that it holds, and the
-/// next number (0 unless it is the first seat). It exists in proofs only; no value of it is ever
-/// created.
+/// next number (0 unless it is the first seat), and values that another seat has observed. It
+/// exists in proofs only; no value of it is ever created.
 pub struct View<T> {
     pub seen: LinkedList<Observation<T>>,
     pub out: Option<T>,
     pub next: u64,
+    pub notes: LinkedList<T>,
 }

@@ -1,3 +1,2 @@
-pub mod Grammar
+pub mod DataLemmas
 pub mod ObjectLemmas
-pub mod ViewLemmas

@@ -1,50 +1,70 @@
-//! The number of a JSON token.
-ghost use Rattle.std.specs.Prelude.{◌≡◌, ◌<◌, ◌==◌, IsTrue, false, length, option_map, slice_index, true};
-ghost use Rattle.serde_json.specs.Read.{float_of, number_from, number_of};
-ghost use Rattle.serde_json.specs.View.{number_view};
+//! Number tokens: the integers that they write, and whether a float can hold them.
+ghost use Rattle.std.specs.Prelude.{◌≡◌, ◌<◌, ◌==◌, IsTrue, is_some, length, slice_index, true, unwrap_or};
+ghost use Rattle.fast_float.specs.Text.{minus};
+ghost use Rattle.serde_json.specs.Find.{as_i64, as_u64};
+ghost use Rattle.serde_json.specs.Read.{number_from, number_of};
+ghost use Rattle.sdb_json.specs.TreeData.{token_number, zero_float};
 
 use fast_float::Numeral;
-use serde_json::Number;
 
-// Parses a number token; returns `None` if its value is out of range.
-pub(crate) fn parse_number(text: &str) -> Option<Number>
-    ensures { option_map number_view result ≡ number_of text.now }
+/// Returns the integer of a token, if it is from 0 to 2^64 - 1 and has no sign.
+pub(crate) fn token_u64(token: &str) -> Option<u64>
+    ensures { result ≡ as_u64 (token_number token.now) }
 {
-    let bytes = text.as_bytes();
-    if has_minus(bytes) {
-        negative(&Numeral::scan(&bytes[1..]))
+    match scan(token) {
+        (false, numeral) => numeral.to_u64(),
+        (true, _) => None,
+    }
+}
+
+/// Returns the integer of a token, if it is from -2^63 to 2^63 - 1. The token `-0` is a float.
+pub(crate) fn token_i64(token: &str) -> Option<i64>
+    ensures { result ≡ as_i64 (token_number token.now) }
+{
+    match scan(token) {
+        (false, numeral) => numeral.to_i64(false),
+        (true, numeral) => negative_integer(&numeral),
+    }
+}
+
+/// Returns whether the token is an integer of 64 bits or in the range of floats.
+pub(crate) fn is_in_range(token: &str) -> bool
+    ensures { result ≡ is_some (number_of token.now) }
+{
+    let (negative, numeral) = scan(token);
+    let is_integer = if negative {
+        negative_integer(&numeral).is_some()
     } else {
-        unsigned(&Numeral::scan(bytes))
-    }
+        numeral.to_u64().is_some()
+    };
+    is_integer || numeral.to_float::<f64>(negative).is_finite()
 }
 
-fn unsigned(numeral: &Numeral<'_>) -> Option<Number>
-    ensures { option_map number_view result ≡ number_from false numeral.now }
-{
-    match numeral.to_u64() {
-        Some(n) => Number::from_u128(u128::from(n)),
-        None => nearest_float(false, numeral),
-    }
-}
-
-fn negative(numeral: &Numeral<'_>) -> Option<Number>
-    ensures { option_map number_view result ≡ number_from true numeral.now }
+// Returns the negative integer of these digits, if it is from -2^63 to -1.
+fn negative_integer(numeral: &Numeral<'_>) -> Option<i64>
+    ensures { result ≡ as_i64 (unwrap_or (number_from true numeral.now) zero_float) }
 {
     match numeral.to_i64(true) {
-        Some(n) if n < 0 => Number::from_i128(i128::from(n)),
-        _ => nearest_float(true, numeral),
+        Some(n) if n < 0 => Some(n),
+        _ => None,
     }
 }
 
-fn nearest_float(negative: bool, numeral: &Numeral<'_>) -> Option<Number>
-    ensures { option_map number_view result ≡ float_of negative numeral.now }
+// Returns whether the token has a minus sign, and the numeral after the sign.
+fn scan(token: &str) -> (bool, Numeral<'_>)
+    ensures { number_from result.0 result.1 ≡ number_of token.now }
 {
-    Number::from_f64(numeral.to_float::<f64>(negative))
+    let bytes = token.as_bytes();
+    if is_negative(bytes) {
+        (true, Numeral::scan(&bytes[1..]))
+    } else {
+        (false, Numeral::scan(bytes))
+    }
 }
 
-fn has_minus(bytes: &[u8]) -> bool
-    ensures value { result ≡ (slice_index bytes.now 0 == 45) }
-    ensures len { IsTrue result → 0 < length bytes.now }
+fn is_negative(token: &[u8]) -> bool
+    ensures sign { result ≡ (slice_index token.now 0 == minus) }
+    ensures bound { IsTrue result → 0 < length token.now }
 {
-    !bytes.is_empty() && bytes[0] == b'-'
+    !token.is_empty() && token[0] == b'-'
 }

@@ -1,10 +1,10 @@
 //! The implementation of `JsonData` for the values of `serde_json`.
 ghost use Rattle.std.specs.Prelude.{◌≡◌, IfOk};
 ghost use Rattle.serde_json.specs.View.{members_view, view};
-ghost use Rattle.sdb_json.specs.JsonTree.{sorted_members};
+ghost use Rattle.sdb_json.specs.TreeData.{sorted_members};
 
 use crate::json_data::JsonData;
-use serde_json::{Map, Number, Value};
+use serde_json::{Map, Value};
 use std::alloc::{AllocError, Global};
 use std::collections::BTreeMap;
 
@@ -19,8 +19,16 @@ impl JsonData for Value {
         Value::as_bool(self)
     }
 
-    fn as_number(&self) -> Option<&Number> {
-        Value::as_number(self)
+    fn is_number(&self) -> bool {
+        Value::is_number(self)
+    }
+
+    fn as_u64(&self) -> Option<u64> {
+        Value::as_u64(self)
+    }
+
+    fn as_i64(&self) -> Option<i64> {
+        Value::as_i64(self)
     }
 
     fn as_str(&self) -> Option<&str> {
@@ -32,6 +40,10 @@ impl JsonData for Value {
             Some(items) => Some(items.as_slice()),
             None => None,
         }
+    }
+
+    fn is_object(&self) -> bool {
+        Value::is_object(self)
     }
 
     fn members(&self, alloc: Global) -> Result<Option<BTreeMap<&str, &Value>>, AllocError> {

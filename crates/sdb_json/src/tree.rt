@@ -1,77 +1,76 @@
-//! The tree of a JSON text.
-ghost use Rattle.sdb_json.specs.JsonTree.{view};
+//! The implementation of `JsonData` for the trees of `json`.
+ghost use Rattle.std.specs.Prelude.{◌≡◌, IfOk};
+ghost use Rattle.json.specs.Value.{members_view};
+ghost use Rattle.serde_json.specs.Data.{no_members};
+ghost use Rattle.sdb_json.specs.TreeData.{members_data, sorted_members, tree_data};
 
-use crate::fields::{find_field, sort_fields};
 use crate::json_data::JsonData;
-use serde_json::Number;
+use crate::number::{token_i64, token_u64};
+use json::Value;
 use std::alloc::{AllocError, Global};
 use std::collections::BTreeMap;
 
-/// The tree of a JSON text. Its strings borrow from the text, or from the scratch if they have
-/// escapes.
-#[derive(Drop)]
-pub enum JsonTree<'a> {
-    /// `null`.
-    Null,
-    /// A boolean.
-    Bool(bool),
-    /// A number.
-    Number(Number),
-    /// A string.
-    Text(&'a str),
-    /// The items of an array.
-    Array(Vec<JsonTree<'a>>),
-    /// The members of an object in the order of the text. Of members with equal keys the last one
-    /// counts.
-    Object(Vec<(&'a str, JsonTree<'a>)>),
-}
-
-impl<'a> JsonData for JsonTree<'a> {
-    ghost json = { view };
+impl<'a> JsonData for Value<'a> {
+    ghost json = { tree_data };
 
     fn is_null(&self) -> bool {
-        matches!(self, JsonTree::Null)
+        Value::is_null(self)
     }
 
     fn as_bool(&self) -> Option<bool> {
-        match self {
-            JsonTree::Bool(truth) => Some(*truth),
-            _ => None,
-        }
+        Value::as_bool(self)
     }
 
-    fn as_number(&self) -> Option<&Number> {
-        match self {
-            JsonTree::Number(number) => Some(number),
-            _ => None,
-        }
+    fn is_number(&self) -> bool {
+        Value::as_number(self).is_some()
+    }
+
+    fn as_u64(&self) -> Option<u64> {
+        token_u64(Value::as_number(self)?)
+    }
+
+    fn as_i64(&self) -> Option<i64> {
+        token_i64(Value::as_number(self)?)
     }
 
     fn as_str(&self) -> Option<&str> {
+        Value::as_str(self)
+    }
+
+    fn as_array(&self) -> Option<&[Value<'a>]> {
         match self {
-            JsonTree::Text(text) => Some(*text),
+            Value::Array(items) => Some(items.as_slice()),
             _ => None,
         }
     }
 
-    fn as_array(&self) -> Option<&[JsonTree<'a>]> {
-        match self {
-            JsonTree::Array(items) => Some(items.as_slice()),
-            _ => None,
-        }
+    fn is_object(&self) -> bool {
+        matches!(self, Value::Object(_))
     }
 
-    fn members(&self, alloc: Global) -> Result<Option<BTreeMap<&str, &JsonTree<'a>>>, AllocError> {
+    fn members(&self, alloc: Global) -> Result<Option<BTreeMap<&str, &Value<'a>>>, AllocError> {
         match self {
-            JsonTree::Object(fields) => Ok(Some(sort_fields(alloc, fields.as_slice())?)),
+            Value::Object(members) => Ok(Some(sort_members(alloc, members.as_slice())?)),
             _ => Ok(None),
         }
     }
 
-    fn get(&self, key: &str) -> Option<&JsonTree<'a>> {
-        match self {
-            JsonTree::Object(fields) => find_field(fields.as_slice(), key),
-            _ => None,
-        }
+    fn get(&self, key: &str) -> Option<&Value<'a>> {
+        Value::get(self, key)
     }
+}
+
+// Returns the last value of each key, sorted by key.
+fn sort_members<'v, 'a>(
+    alloc: Global,
+    members: &'v [(&'a str, Value<'a>)],
+) -> Result<BTreeMap<&'v str, &'v Value<'a>>, AllocError>
+    ensures { IfOk result (λ m. sorted_members tree_data m.entries
+        ≡ members_data (members_view members.now) no_members) }
+{
+    let mut found = BTreeMap::new(alloc);
+    for (name, value) in members {
+        found.insert(*name, value)?;
+    }
+    Ok(found)
 }

@@ -3,8 +3,10 @@ ghost use Rattle.std.specs.Prelude.{◌≡◌, ℕ, ◌++◌, ◌∷◌, [], tru
 ghost use Rattle.sdb_growlock.specs.SeatModel.{BelongsTo, number, next};
 
 use sdb_growlock::{GrowLock, Grows, Job, Seat};
+use std::process::Abort;
 use std::sync::Wait;
 use std::thread;
+use std::thread::Threads;
 
 // The number of times that each thread adds its number.
 const TIMES: u64 = 1_000;
@@ -39,9 +41,12 @@ impl Grows for Tally {
     ghost blank_of_same = { λ n a b h k. sym h ∙ k };
 }
 
-// A job that adds the number under which it runs, and returns whether the allocation succeeded.
+// A job that yields so many times, adds the number under which it runs, and returns whether the
+// allocation succeeded.
 #[derive(Drop)]
-struct AddNumber;
+struct AddNumber {
+    yields: u64,
+}
 
 impl Job<Tally> for AddNumber {
     type Answer = bool;
@@ -51,19 +56,32 @@ impl Job<Tally> for AddNumber {
     ghost postcondition = { λ _ n old new added. added ≡ true → new.numbers.items ≡ old.numbers.items ++ n ∷ [] };
 
     fn run(self, number: u64, tally: &mut Tally) -> bool {
+        yield_often(self.yields);
         tally.numbers.push(number).is_ok()
     }
 }
 
-// Adds the number of the seat so many times. Returns the seat, and the number of allocations that
-// succeeded.
-fn add_all<R: Wait>(rt: &R, lock: &GrowLock<Tally>, mut seat: Seat<Tally>) -> (Seat<Tally>, u64)
+fn yield_often(count: u64) {
+    for _ in 0..count {
+        thread::yield_now();
+    }
+}
+
+// Adds the number of the seat so many times, each after so many yields. Returns the seat, and the
+// number of allocations that succeeded.
+fn add_all<R: Wait>(
+    rt: &R,
+    lock: &GrowLock<Tally>,
+    mut seat: Seat<Tally>,
+    times: u64,
+    yields: u64,
+) -> (Seat<Tally>, u64)
     requires belongs { BelongsTo seat lock.now }
     ensures belongs { BelongsTo result.0 lock.now × (number result.0 ≡ number seat) × (next result.0 ≡ next seat) }
 {
     let mut added = 0;
-    for _ in 0..TIMES {
-        if lock.with(rt, &mut seat, AddNumber) && added < TIMES {
+    for _ in 0..times {
+        if lock.with(rt, &mut seat, AddNumber { yields }) && added < times {
             added += 1;
         }
     }
@@ -74,8 +92,12 @@ fn count(tally: &Tally, number: u64) -> usize {
     tally.numbers.iter().filter(|it| **it == number).count()
 }
 
-#[test]
-fn two_threads_add_all_their_numbers(rt: HostRuntime) {
+// Adds the numbers of two threads. Returns how many allocations of each succeeded, and how often
+// each number was added.
+fn add_in_two_threads<R>(rt: &R, times: u64, yields: u64) -> [(u64, usize); 2]
+where
+    R: AllocGlobal + Threads + Wait + Abort + Sync,
+{
     let alloc = rt.alloc();
     let numbers = Vec::new(alloc);
     let Ok((lock, mut first)) = GrowLock::new(alloc, Tally { numbers }) else {
@@ -84,18 +106,27 @@ fn two_threads_add_all_their_numbers(rt: HostRuntime) {
     let (Ok(one), Ok(two)) = (lock.split(&mut first), lock.split(&mut first)) else {
         panic!(rt; "no seat");
     };
-    let mut seats = Vec::with_capacity(alloc, 3).expect(&rt, "out of memory");
+    let mut seats = Vec::with_capacity(alloc, 3).expect(rt, "out of memory");
     let (one, two) = thread::join(
-        &rt,
-        || add_all(&rt, &lock, one),
-        || add_all(&rt, &lock, two),
+        rt,
+        || add_all(rt, &lock, one, times, yields),
+        || add_all(rt, &lock, two, times, yields),
     );
     seats.push_reserved(first);
     seats.push_reserved(one.0);
     seats.push_reserved(two.0);
     let tally = lock.close(seats);
-    let counts = (count(&tally, 1), count(&tally, 2));
-    assert!(rt;
-        (one.1, two.1, counts) == (TIMES, TIMES, (1_000, 1_000)) && tally.numbers.len() == 2_000
-    );
+    [(one.1, count(&tally, 1)), (two.1, count(&tally, 2))]
+}
+
+#[test]
+fn two_threads_add_all_their_numbers(rt: HostRuntime) {
+    assert!(rt; add_in_two_threads(&rt, TIMES, 0) == [(1_000, 1_000), (1_000, 1_000)]);
+}
+
+// Each job holds the lock so long that the other thread parks. Unless it is woken, the test doesn't
+// end.
+#[test]
+fn a_parked_thread_is_woken(rt: HostRuntime) {
+    assert!(rt; add_in_two_threads(&rt, 5, 100_000) == [(5, 5), (5, 5)]);
 }

@@ -8,6 +8,7 @@ use sdb_chunks::{ChunkedVec, Repr};
 use sdb_component::Op;
 use sdb_rope::Rope;
 use sdb_sorted_map::SortedMap;
+use sdb_subscribe::Queues;
 use sdb_transform::{Crossed, Fault, cross};
 use std::alloc::Global;
 use std::process::Abort;
@@ -296,4 +297,18 @@ fn a_frozen_map_is_unchanged_if_a_removal_fails(rt: HostRuntime) {
         assert!(rt; map.remove(rt.alloc(), "1999").is_ok());
     }
     assert!(rt; has_values_below(&map, 1_999) && has_values_below(&clone, 2_000));
+}
+
+// A failed open leaves the queues unchanged, and a retry succeeds.
+#[test]
+fn open_changes_nothing_if_an_allocation_fails(rt: HostRuntime) {
+    let mut queues = Queues::new(rt.alloc());
+    mark(&rt, rt.alloc());
+    let opened = queues.open(0, 7).is_ok();
+    mark(&rt, rt.alloc());
+    if !opened {
+        assert!(rt; queues.next_id() == 0 && queues.count() == 0);
+        assert!(rt; queues.open(0, 7).is_ok());
+    }
+    assert!(rt; queues.next_id() == 1 && queues.count() == 1);
 }

@@ -67,10 +67,14 @@ pub(crate) fn json_equals(rt: &impl Abort, alloc: Global, json: &Json, wanted: &
     json_prints_as(rt, alloc, json, text_of(rt, alloc, wanted).as_str())
 }
 
+pub(crate) fn op_text(rt: &impl Abort, alloc: Global, op: &Op) -> String {
+    let value = op_value(alloc, op).expect(rt, "out of memory");
+    text_of(rt, alloc, &value)
+}
+
 // Returns whether the operation is printed as this text.
 pub(crate) fn op_prints_as(rt: &impl Abort, alloc: Global, op: &Op, wanted: &str) -> bool {
-    let value = op_value(alloc, op).expect(rt, "out of memory");
-    displays_as(rt, alloc, &value, wanted)
+    op_text(rt, alloc, op).as_str() == wanted
 }
 
 // Returns whether the operation is printed like this value.

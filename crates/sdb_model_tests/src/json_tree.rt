@@ -1,7 +1,7 @@
 //! Tests of `sdb_json`: texts parsed to trees, and the accessors of trees and of `serde_json`
 //! values.
 use crate::helpers::{check_rows, concat, json_prints_as, parse_value, with_repeated};
-use sdb_json::{JsonData, JsonTree, Scratch};
+use sdb_json::{JsonData, Scratch, parse_json};
 use sdb_value::from_value;
 use serde_json::Value;
 use std::alloc::Global;
@@ -34,7 +34,7 @@ fn is_parsed_as(rt: &impl Abort, alloc: Global, row: &[Value]) -> bool {
     };
     let text = text.as_str().expect(rt, "a text");
     let mut scratch = Scratch::new(alloc);
-    let tree = JsonTree::from_str(alloc, text, &mut scratch).expect(rt, "out of memory");
+    let tree = parse_json(alloc, text, &mut scratch).expect(rt, "out of memory");
     match (tree, wanted.as_str()) {
         (Some(tree), Some(wanted)) => {
             let json = from_value(alloc, &tree).expect(rt, "out of memory or no value");
@@ -55,7 +55,7 @@ fn accepts_depth(rt: &impl Abort, alloc: Global, depth: u64) -> bool {
     let opened = with_repeated(rt, alloc, "", "[", depth);
     let text = with_repeated(rt, alloc, opened.as_str(), "]", depth);
     let mut scratch = Scratch::new(alloc);
-    JsonTree::from_str(alloc, text.as_str(), &mut scratch)
+    parse_json(alloc, text.as_str(), &mut scratch)
         .expect(rt, "out of memory")
         .is_some()
 }
@@ -70,12 +70,12 @@ fn a_long_string_is_parsed(rt: HostRuntime) {
     let long = with_repeated(&rt, rt.alloc(), "", "ab\\n", 30_000);
     let text = concat(&rt, rt.alloc(), "{\"t\":\"", &[long.as_str(), "\"}"]);
     let mut scratch = Scratch::new(rt.alloc());
-    let tree = JsonTree::from_str(rt.alloc(), text.as_str(), &mut scratch)
+    let tree = parse_json(rt.alloc(), text.as_str(), &mut scratch)
         .expect(&rt, "out of memory")
         .expect(&rt, "JSON");
     let parsed = tree
         .get("t")
-        .and_then(JsonTree::as_str)
+        .and_then(JsonData::as_str)
         .expect(&rt, "a text");
     assert!(rt; parsed.len() == 90_000 && parsed.ends_with("ab\n"));
 }
@@ -84,12 +84,14 @@ const KINDS: &str = r#"{"n":null,"b":true,"i":-7,"t":"x","l":[1,[]],"o":{"k":0}}
 
 // Checks the accessor of each kind of value.
 fn returns_its_kinds<D: JsonData>(rt: &impl Abort, alloc: Global, value: &D) -> bool {
-    let number = value.get("i").and_then(D::as_number).expect(rt, "a number");
+    let number = value.get("i").expect(rt, "a number");
     let items = value.get("l").and_then(D::as_array).expect(rt, "a list");
     let members = value.members(alloc).expect(rt, "out of memory");
     value.get("n").is_some_and(D::is_null)
         && value.get("b").and_then(D::as_bool) == Some(true)
+        && number.is_number()
         && number.as_i64() == Some(-7)
+        && number.as_u64().is_none()
         && value.get("t").and_then(D::as_str) == Some("x")
         && items.len() == 2
         && members.expect(rt, "an object").len() == 6
@@ -102,7 +104,8 @@ fn returns_no_other_kind<D: JsonData>(rt: &impl Abort, alloc: Global, value: &D)
     let members = text.members(alloc).expect(rt, "out of memory");
     !text.is_null()
         && text.as_bool().is_none()
-        && text.as_number().is_none()
+        && !text.is_number()
+        && text.as_i64().is_none()
         && value.as_str().is_none()
         && text.as_array().is_none()
         && members.is_none()
@@ -112,7 +115,7 @@ fn returns_no_other_kind<D: JsonData>(rt: &impl Abort, alloc: Global, value: &D)
 #[test]
 fn a_tree_returns_values_of_its_kind_only(rt: HostRuntime) {
     let mut scratch = Scratch::new(rt.alloc());
-    let tree = JsonTree::from_str(rt.alloc(), KINDS, &mut scratch)
+    let tree = parse_json(rt.alloc(), KINDS, &mut scratch)
         .expect(&rt, "out of memory")
         .expect(&rt, "JSON");
     assert!(rt;

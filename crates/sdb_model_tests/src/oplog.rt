@@ -2,11 +2,11 @@
 //! which the lines do not cover.
 ghost use Rattle.std.specs.Prelude.{◌≡◌};
 
-use crate::helpers::{op_equals, op_of, parse_value};
+use crate::helpers::{op_equals, op_of, op_text, parse_value};
 use sdb_component::Op;
 use sdb_oplog::{
     Code, Content, Entry, Kind, Log, Moment, PathInterner, Submission, clone_entries,
-    entries_equal, over,
+    entries_equal, over, rebase,
 };
 use sdb_value::Json;
 use serde_json::Value;
@@ -101,6 +101,115 @@ fn a_delete_refuses_a_concurrent_edit(rt: HostRuntime) {
         matches!(over(rt.alloc(), &edit, &delete), Err(Code::E5))
             && is_delete(&over(rt.alloc(), &delete, &edit))
     );
+}
+
+// Returns a log's entry with this content.
+fn entry_of(rt: &impl Abort, alloc: Global, version: u64, content: Content) -> Entry {
+    let submission = submission(rt, alloc, version, content);
+    Entry::new(version, Moment::zero(), None, submission)
+}
+
+fn edit_of(rt: &impl Abort, alloc: Global, op: &str) -> Content {
+    Content::edit(alloc, op_of(rt, alloc, &parse_value(rt, alloc, op))).expect(rt, "out of memory")
+}
+
+// Returns the entries of these edits.
+fn entries_of(rt: &impl Abort, alloc: Global, edits: &[&str]) -> Vec<Entry> {
+    let mut entries = Vec::new(alloc);
+    for edit in edits {
+        let version = entries.len() as u64;
+        let entry = entry_of(rt, alloc, version, edit_of(rt, alloc, edit));
+        entries.push(entry).expect(rt, "out of memory");
+    }
+    entries
+}
+
+// Returns the text of the edit, transformed against these edits in order.
+fn rebased_text(rt: &impl Abort, alloc: Global, edit: &str, others: &[&str]) -> String {
+    let (edit, entries) = (edit_of(rt, alloc, edit), entries_of(rt, alloc, others));
+    let rebased = rebase(alloc, &edit, entries.as_slice());
+    let rebased = rebased.ok().expect(rt, "a rebased edit").unwrap_or(edit);
+    match rebased.kind() {
+        Kind::Edit(op) => op_text(rt, alloc, op),
+        _ => String::new(alloc),
+    }
+}
+
+const INSERT: &str = r#"[{"li":"c","p":[2]}]"#;
+
+const DELETE: &str = r#"[{"ld":"c","p":[2]}]"#;
+
+#[test]
+fn an_edit_is_rebased_on_each_entry(rt: HostRuntime) {
+    for (edit, others, wanted) in [
+        (INSERT, &[] as &[&str], INSERT),
+        (
+            INSERT,
+            &[r#"[{"li":"a","p":[0]}]"#, r#"[{"li":"b","p":[0]}]"#],
+            r#"[{"li":"c","p":[4]}]"#,
+        ),
+        (
+            INSERT,
+            &[r#"[{"li":"a","p":[1]}]"#, r#"[{"ld":"a","p":[1]}]"#],
+            INSERT,
+        ),
+        (
+            DELETE,
+            &[r#"[{"li":"a","p":[0]}]"#, r#"[{"ld":"c","p":[3]}]"#],
+            "[]",
+        ),
+    ] {
+        let rebased = rebased_text(&rt, rt.alloc(), edit, others);
+        assert!(rt; rebased.as_str() == wanted, "{edit}");
+    }
+}
+
+fn create_null(rt: &impl Abort, alloc: Global) -> Content {
+    Content::create(alloc, Json::Null).expect(rt, "out of memory")
+}
+
+// Returns the code that refuses the content after these stored ones.
+fn refusal_after(
+    rt: &impl Abort,
+    alloc: Global,
+    content: &Content,
+    first: Content,
+    second: Option<Content>,
+) -> Option<Code> {
+    let mut entries = Vec::new(alloc);
+    entries
+        .push(entry_of(rt, alloc, 0, first))
+        .expect(rt, "out of memory");
+    if let Some(second) = second {
+        let entry = entry_of(rt, alloc, 1, second);
+        entries.push(entry).expect(rt, "out of memory");
+    }
+    rebase(alloc, content, entries.as_slice()).err()
+}
+
+#[test]
+fn a_rebase_returns_the_first_refusal(rt: HostRuntime) {
+    let alloc = rt.alloc();
+    let edit = edit_of(&rt, alloc, r#"[{"na":1,"p":[]}]"#);
+    let (null, delete) = (create_null(&rt, alloc), Content::delete());
+    for (content, wanted) in [
+        (&edit, Some(Code::E5)),
+        (&null, Some(Code::E5)),
+        (&delete, Some(Code::E6)),
+    ] {
+        let stored = Some(create_null(&rt, alloc));
+        let refusal = refusal_after(&rt, alloc, content, Content::delete(), stored);
+        assert!(rt; refusal == wanted);
+    }
+    for (content, wanted) in [
+        (&edit, Some(Code::E6)),
+        (&null, Some(Code::E6)),
+        (&delete, Some(Code::E6)),
+    ] {
+        let refusal = refusal_after(&rt, alloc, content, create_null(&rt, alloc), None);
+        assert!(rt; refusal == wanted);
+    }
+    assert!(rt; refusal_after(&rt, alloc, &delete, Content::delete(), None).is_none());
 }
 
 // Edits in order.

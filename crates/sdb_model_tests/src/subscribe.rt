@@ -77,13 +77,19 @@ fn a_ring_skips_entries_before_its_start(rt: HostRuntime) {
     assert!(rt; queues.ringed(late) == Some(1));
 }
 
-// A failed open leaves the queues unchanged, and a retry succeeds.
+// The queue has no entry before its start, so the ring begins there.
 #[test]
-fn a_failed_open_leaves_the_queues_unchanged(rt: HostRuntime) {
-    let mut queues = Queues::new(rt.alloc());
-    if queues.open(0, 7).is_err() {
-        assert!(rt; queues.next_id() == 0 && queues.count() == 0);
-        let id = open_queue(&rt, &mut queues, 7);
-        assert!(rt; queues.ringed(id) == Some(0));
+fn a_ring_keeps_entries_of_each_version(rt: HostRuntime) {
+    for start in [490, 9_990, 1_000_000] {
+        let mut queues = Queues::new(rt.alloc());
+        let id = open_queue(&rt, &mut queues, start);
+        push_all(
+            &rt,
+            rt.alloc(),
+            &mut queues,
+            start,
+            start.saturating_add(20),
+        );
+        assert!(rt; queues.ringed(id) == Some(20), "{start}");
     }
 }

@@ -9,7 +9,7 @@ use crate::helpers::{
 use json::Writer;
 use sdb_value::{
     Change, Json, List, MAX, Members, Path, Step, ValueFault, Whole, change_at, count_of, cut_at,
-    find, find_mut, insert_item, laws, list_mut, object_mut, put_at_key, remove_at_key,
+    find, find_mut, from_value, insert_item, laws, list_mut, object_mut, put_at_key, remove_at_key,
     remove_item, replace_item, text_mut, units, values_equal, whole_of, write_value,
 };
 use serde_json::Value;
@@ -94,7 +94,7 @@ const NUMBERS: &str = r#"[
 ]"#;
 
 fn integer_of(value: &Value) -> Option<i64> {
-    whole_of(value.as_number()?).map(Whole::get)
+    whole_of(value).map(Whole::get)
 }
 
 fn is_number(_rt: &impl Abort, _alloc: Global, row: &[Value]) -> bool {
@@ -260,6 +260,50 @@ fn find_mut_changes_a_value(rt: HostRuntime) {
     set_true(&mut value, &path);
     let after = r#"{"a":[1,{"b":true}],"c":null,"d":true}"#;
     assert!(rt; json_prints_as(&rt, rt.alloc(), &value, after));
+}
+
+// The value shares its parts with another one. A search, with or without a result, changes neither.
+#[test]
+fn find_mut_leaves_a_shared_value_unchanged(rt: HostRuntime) {
+    let alloc = rt.alloc();
+    for steps in [
+        r#"[]"#,
+        r#"["a"]"#,
+        r#"["a",1,"b"]"#,
+        r#"["c"]"#,
+        r#"["a",2]"#,
+    ] {
+        let mut value = json(&rt, alloc, DOCUMENT);
+        value.freeze(alloc).expect(&rt, "out of memory");
+        let other = value.frozen_clone(alloc).expect(&rt, "out of memory");
+        let path = path_of(&rt, alloc, &parse_value(&rt, alloc, steps));
+        let _ = find_mut(&mut value, &path);
+        assert!(rt; json_prints_as(&rt, alloc, &value, DOCUMENT), "{steps}");
+        assert!(rt; json_prints_as(&rt, alloc, &other, DOCUMENT), "{steps}");
+    }
+}
+
+#[test]
+fn numbers_out_of_range_are_refused(rt: HostRuntime) {
+    for number in [
+        "9007199254740992",
+        "9223372036854775807",
+        "9223372036854775808",
+        "18446744073709551615",
+        "18446744073709551616",
+        "-9007199254740992",
+        "-9223372036854775808",
+        "-9223372036854775809",
+        "1.5",
+        "1e300",
+    ] {
+        let value = parse_value(&rt, rt.alloc(), number);
+        let parsed = from_value(rt.alloc(), &value);
+        assert!(rt;
+            matches!(parsed, Err(ValueFault::NumberOutOfRange)),
+            "{number}"
+        );
+    }
 }
 
 // Replaces a value, and returns the depth of the old one.

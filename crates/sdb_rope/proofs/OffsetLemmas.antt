@@ -86,6 +86,12 @@ split_after bs t p q s j is same found =
     let e = found ∙ ap (λ l. cut_at l q) (to_end bs s) in
     subst (λ l. IsSplitPoint l (s + j)) is (cut_split bs p (s + j) (same ∙ ap (option_map (λ i. s + i)) (sym e)))
 
+-- what is found in the bytes from s on is found in all
+pub found_after : (bs t : List ℕ) (p q s : ℕ) (r : Option ℕ) → bs ≡ t → cut_at bs p ≡ option_map (λ i. s + i) (cut_at (drop s bs) q)
+    → r ≡ cut_at (take (length bs - s) (drop s bs)) q → cut_at t p ≡ option_map (λ i. s + i) r
+found_after bs t p q s r is same found =
+    ap (λ l. cut_at l p) (sym is) ∙ same ∙ ap (option_map (λ i. s + i)) (sym (found ∙ ap (λ l. cut_at l q) (to_end bs s)))
+
 of_none : (k : ℕ) → units (take k []) ≡ 0
 of_none zero = refl
 of_none (suc k) = refl

@@ -4,7 +4,7 @@ ghost use Rattle.std.specs.Char.Escape.{encode_utf16};
 ghost use Rattle.std.specs.List.{flat_map};
 ghost use Rattle.std.specs.Str.{encode_utf8_all};
 ghost use Rattle.std.specs.String.Boundary.{IsSplitPoint};
-ghost use Rattle.sdb_rope.specs.Utf16.{utf16_width, units, cut_at};
+ghost use Rattle.sdb_rope.specs.Utf16.{utf16_width, units, cut_at, IsUtf16Position};
 
 // Number of bytes measured at once. Their code units fit a `u16`, so the loop can be vectorized.
 const SCAN_LEN: usize = 4096;
@@ -29,6 +29,7 @@ pub fn units(text: &str) -> u64
 /// Returns `None` if the offset is inside a surrogate pair or after the end.
 pub fn cut_at(text: &str, offset: u64) -> Option<usize>
     ensures position { result ≡ cut_at text.now offset }
+    ensures encoded { (cs : List ℕ) → encode_utf8_all cs ≡ text.now → IsUtf16Position cs offset result }
     ensures boundary { IfSome result (λ at. IsSplitPoint text.now at) }
 {
     let bytes = text.as_bytes();

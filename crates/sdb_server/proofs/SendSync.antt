@@ -1,16 +1,12 @@
 -- Send and Sync of the values that connection threads share and return.
 use denote.RattleType.{RattleType}
-use denote.Param.Send.{IsSend, IsSync, sendable, view_send, view_sync}
+use denote.Param.Send.{IsSend, IsSync, sendable}
 use denote.Param.SendFields.{declared_send, declared_sync}
 use Rattle.std.proofs.Crossing.{crosses}
 use Rattle.std.proofs.MapsCrossing as maps
 use Rattle.mio.specs.contracts.waker.Waker as Waker
 use Rattle.sdb_projection.specs.contracts.table.Table as Table
-use Rattle.sdb_backend.proofs.SendSync.{Backend-send, Backend-sync, Pass-send, Content-sync, Submission-sync, Entry-send}
-use Rattle.sdb_oplog.specs.contracts.entry.Entry as Entry
-use Rattle.sdb_wire.specs.contracts.op_text.OpText as OpText
-use Rattle.sdb_wire.specs.contracts.op_text.OpText.TheInside as op_text
-use Rattle.sdb_session.specs.contracts.op_text_cache.OpTextCache as Texts
+use Rattle.sdb_backend.proofs.SendSync.{Backend-send, Backend-sync, Pass-send}
 use Rattle.sdb_server.specs.contracts.wakeups.Waiter as Sleeper
 use Rattle.sdb_server.specs.contracts.wakeups.WakeRegistry as Followers
 use Rattle.sdb_server.specs.contracts.server_state.ServerState as ServerState
@@ -39,27 +35,6 @@ Followers-send = declared_send Followers.the_type (search (crosses, sendable, Sl
 Followers-sync : IsSync Followers.the_row
 Followers-sync = declared_sync Followers.the_type (search (crosses, sendable, Sleeper-sync) depth 12)
 
-Entry-sync : IsSync Entry.the_row
-Entry-sync = search (sendable, crosses, maps.crosses, Content-sync, Submission-sync) depth 20
-
-op_text-send : IsSend op_text.the_row
-op_text-send = declared_send op_text.the_type (search (sendable, crosses, maps.crosses, Entry-send) depth 20)
-
-op_text-sync : IsSync op_text.the_row
-op_text-sync = declared_sync op_text.the_type (search (sendable, crosses, maps.crosses, Entry-sync) depth 20)
-
-OpText-send : IsSend OpText.the_row
-OpText-send = view_send _ _ _ _ _ op_text-send
-
-OpText-sync : IsSync OpText.the_row
-OpText-sync = view_sync _ _ _ _ _ op_text-sync
-
-Texts-send : IsSend Texts.the_row
-Texts-send = declared_send Texts.the_type (search (crosses, sendable, OpText-send, OpText-sync) depth 12)
-
-Texts-sync : IsSync Texts.the_row
-Texts-sync = declared_sync Texts.the_type (search (crosses, sendable, OpText-send, OpText-sync) depth 12)
-
 Slot-send : IsSend Slot.the_row
 Slot-send = search (sendable, crosses) depth 20
 
@@ -72,7 +47,7 @@ Served-send =
 
 module _ (R : RattleType) where
   pub ServerState-send : IsSend R → IsSend (ServerState.the_row R)
-  ServerState-send s = declared_send (ServerState.the_type R) (Backend-send R s, (Table-send, search (crosses, sendable, Slot-send, Followers-send, Texts-send, Texts-sync) depth 12))
+  ServerState-send s = declared_send (ServerState.the_type R) (Backend-send R s, (Table-send, search (crosses, sendable, Slot-send, Followers-send) depth 12))
 
   pub ServerState-sync : IsSync R → IsSync (ServerState.the_row R)
-  ServerState-sync y = declared_sync (ServerState.the_type R) (Backend-sync R y, (Table-sync, search (crosses, sendable, Slot-send, Followers-sync, Texts-send, Texts-sync) depth 12))
+  ServerState-sync y = declared_sync (ServerState.the_type R) (Backend-sync R y, (Table-sync, search (crosses, sendable, Slot-send, Followers-sync) depth 12))

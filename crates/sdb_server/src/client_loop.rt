@@ -11,11 +11,11 @@ use crate::socket_sink::SocketSink;
 use crate::wakeups::{IdBucket, WakeHandle};
 use sdb_backend::{Backend, Pass};
 use sdb_projection::Table;
-use sdb_session::{Ended, OpTextCache, Session};
+use sdb_session::{Ended, Session};
 use std::alloc::Global;
 use std::io::{Error as IoError, ErrorKind, Read, Write};
+use std::sync::Wait;
 use std::sync::atomic::{AtomicBool, Ordering};
-use std::sync::{Arc, Wait};
 use tungstenite::{
     Bytes, CloseCode, CloseFrame, Error, Message, NoMask, Role, Utf8Bytes, WebSocket,
 };
@@ -89,8 +89,6 @@ pub(crate) struct Service<'a, R: Wait, C> {
     pub(crate) clock: C,
     /// Set once the server is shutting down. `None` outside a server.
     pub(crate) is_ending: Option<&'a AtomicBool>,
-    /// The cache of operation texts that sessions share, if any.
-    pub(crate) texts: Option<&'a Arc<OpTextCache>>,
     /// The session's entry in the wake registry, if any.
     pub(crate) wake_handle: Option<WakeHandle<'a>>,
 }
@@ -141,7 +139,6 @@ pub fn serve<'a, R: Wait + Drop, C: Clock + Drop, S: Read + Write + Drop>(
         table,
         clock,
         is_ending: None,
-        texts: None,
         wake_handle: None,
     };
     serve_until(rt, alloc, socket, pass, service).pass
@@ -176,7 +173,6 @@ pub(crate) fn serve_until<'a, R: Wait + Drop, C: Clock + Drop, S: Read + Write +
         table,
         clock,
         is_ending,
-        texts,
         wake_handle: following,
     } = service;
     let mut client = Client {
@@ -189,7 +185,7 @@ pub(crate) fn serve_until<'a, R: Wait + Drop, C: Clock + Drop, S: Read + Write +
         is_ending,
         wake_handle: following,
         pass,
-        session: new_session(alloc, source, texts),
+        session: Session::new(alloc, source),
         silent_reads: 0,
         messages: 0,
         operations: 0,
@@ -199,15 +195,6 @@ pub(crate) fn serve_until<'a, R: Wait + Drop, C: Clock + Drop, S: Read + Write +
     let (socket, served) = client.finish(end);
     send_close_action(alloc, socket, action);
     served
-}
-
-// Creates a session for the source. It shares the cache of texts, if there is one.
-fn new_session(alloc: Global, source: String, texts: Option<&Arc<OpTextCache>>) -> Session {
-    let mut session = Session::new(alloc, source);
-    if let Some(Ok(texts)) = texts.map(Arc::try_clone) {
-        session.use_text_cache(texts);
-    }
-    session
 }
 
 impl<'a, R: Wait + Drop, C: Clock + Drop, S: Read + Write + Drop> Client<'a, R, C, S> {

@@ -15,11 +15,10 @@ use crate::clock::Clock;
 use sdb_desk::Shard;
 use sdb_lines::{Counts, LineHandler, RunFault, Sink, Source, run_lines as run};
 use sdb_projection::Table;
-use sdb_session::{OpTextCache, Session};
+use sdb_session::Session;
 use sdb_submit::Solo;
 use std::alloc::{AllocError, Global};
 use std::mem::forget;
-use std::sync::Arc;
 
 // The session's source.
 const SOURCE: &str = "s1";
@@ -173,12 +172,10 @@ pub fn run_lines_at_exit<C: Clock + Drop, R: Source, W: Sink>(
     counts
 }
 
-// Creates the session, with a cache so that it writes the text of an operation once.
+// Creates the session.
 fn new_session(alloc: Global) -> Result<Session, AllocError>
     ensures source { IfOk result (λ s. (plain_session s).source ≡ own_source) }
     ensures subs { IfOk result (λ s. (plain_session s).subs ≡ []) }
 {
-    let mut session = Session::new(alloc, String::from_str(alloc, SOURCE)?);
-    session.use_text_cache(Arc::new(alloc, OpTextCache::new(alloc)?)?);
-    Ok(session)
+    Ok(Session::new(alloc, String::from_str(alloc, SOURCE)?))
 }

@@ -12,14 +12,13 @@ use crate::wakeups::WakeRegistry;
 use crate::waking_stream::WakingStream;
 use sdb_backend::{Backend, Pass};
 use sdb_projection::Table;
-use sdb_session::OpTextCache;
 use sdb_wire::MESSAGE_LIMIT;
 use std::alloc::{AllocError, Global};
 use std::io;
 use std::io::{Read, Write};
 use std::net::{Net, TcpStream};
 use std::sync::atomic::{AtomicBool, Ordering};
-use std::sync::{Arc, Mutex, Wait};
+use std::sync::{Mutex, Wait};
 use std::time::{Clock, Duration};
 use tungstenite::{CloseCode, NoMask, Role, WebSocket, WebSocketConfig};
 
@@ -58,8 +57,6 @@ pub struct ServerState<R: Wait> {
     ended: Mutex<Vec<Slot>>,
     // The sessions, which are woken if an operation is stored.
     wake_registry: WakeRegistry,
-    // The cache of operation texts that all sessions share.
-    texts: Arc<OpTextCache>,
 }
 
 /// The kind of a thread and its slot.
@@ -113,7 +110,6 @@ impl<R: Wait + Drop> ServerState<R> {
             is_ending: AtomicBool::new(false),
             ended: Mutex::new(ended),
             wake_registry: WakeRegistry::new(alloc)?,
-            texts: Arc::new(alloc, OpTextCache::new(alloc)?)?,
         })
     }
 
@@ -246,7 +242,6 @@ impl<R: Wait + Drop> ServerState<R> {
             table: &self.table,
             clock: SystemClock::new(rt),
             is_ending: Some(&self.is_ending),
-            texts: Some(&self.texts),
             wake_handle: following,
         };
         let served = serve_until(rt, alloc, &mut socket, pass, service);

@@ -188,8 +188,14 @@ fn read_to_end<I: Read + Drop>(mut input: I) {
     }
 }
 
-// Prints the outcome of closing a backend, and returns the exit status.
-fn print_close<R: AllocGlobal + Print + Eprint, W: Wait + Drop>(
+/// Prints the outcome of closing a backend, and returns the exit status. The number of stored
+/// documents and operations goes to standard error, and the dump, if requested, to standard output.
+///
+/// # Errors
+///
+/// [`AllocError`] if an allocation for the count of the documents fails. The
+/// [`io::Error`](std::io::Error) of printing a line.
+pub fn print_close<R: AllocGlobal + Print + Eprint, W: Wait + Drop>(
     rt: &R,
     closed: Result<Audit, CloseRefused<W>>,
     is_dumping: bool,

@@ -6,6 +6,6 @@ mod clients;
 mod command_line;
 mod projection_option;
 
-pub use clients::{StopCondition, serve_at, serve_until_end};
+pub use clients::{StopCondition, print_close, serve_at, serve_until_end};
 pub use command_line::{Options, ParsedArgs, RunMode, answer_input, parse_options, parse_run, run};
 pub use projection_option::{ProjectionOptionError, table_of};

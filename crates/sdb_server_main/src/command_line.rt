@@ -220,11 +220,30 @@ fn a_refused_command_line_is_one_line_on_standard_error(rt: HostRuntime) {
     }
 }
 
+// The options and their texts in the help.
+const OPTIONS: [&str; 12] = [
+    "--lines",
+    "--listen <ADDR>",
+    "--connections <N>",
+    "With --listen, exit after serving N clients",
+    "--until-eof",
+    "With --listen, exit at the end of standard input",
+    "--dump",
+    "With --until-eof, write a dump of all logs at exit",
+    "--log",
+    "With --listen, log connections to standard error",
+    "--projection <NAME=COLLECTION:FIELD,..>",
+    "Project these fields of a collection under another name",
+];
+
 // The version is one line.
 #[test]
 fn help_and_the_version_are_printed(rt: HostRuntime) {
     let (status, out, err) = run_without_job(&rt, rt.alloc(), "sdb_server --help");
-    assert!(rt; status == Some(STATUS_OK) && err.is_empty() && !out.is_empty());
+    assert!(rt; status == Some(STATUS_OK) && err.is_empty());
+    for option in OPTIONS {
+        assert!(rt; out.as_str().contains(option), "{option}");
+    }
     let (status, out, err) = run_without_job(&rt, rt.alloc(), "sdb_server --version");
     assert!(rt;
         status == Some(STATUS_OK) && err.is_empty() && out.as_str() == "sdb_server 1.0.0\n"

@@ -9,6 +9,7 @@ use crate::clients::{
     Client, FIRST_INIT, connect_tcp, exchange, expect_close, expect_text, open_session,
     try_open_session,
 };
+use crate::nesting::nest_deeply;
 use crate::wakeups::{
     DEFAULT_WAIT_MS, LONG_WAIT_MS, SHORT_WAIT_MS, assert_soon, end_after_a_message, now,
     receive_at_once, receive_ping,
@@ -305,6 +306,7 @@ enum ClientScenario {
     ReceiveAtOnce,
     ReceivePing,
     EndAfterAMessage,
+    NestDeeply,
 }
 
 impl ClientScenario {
@@ -337,6 +339,7 @@ impl ClientScenario {
             ClientScenario::ReceiveAtOnce => receive_at_once(abort, rt, alloc, address),
             ClientScenario::ReceivePing => receive_ping(abort, rt, alloc, address),
             ClientScenario::EndAfterAMessage => end_after_a_message(abort, rt, alloc, address),
+            ClientScenario::NestDeeply => nest_deeply(abort, rt, alloc, address),
         }
     }
 }
@@ -360,6 +363,7 @@ fn clients_are_served_over_sockets(rt: HostRuntime) {
         (ClientScenario::ReceiveAtOnce, 2, LONG_WAIT_MS),
         (ClientScenario::ReceivePing, 1, SHORT_WAIT_MS),
         (ClientScenario::EndAfterAMessage, 1, LONG_WAIT_MS),
+        (ClientScenario::NestDeeply, 1, DEFAULT_WAIT_MS),
     ] {
         let listener = TcpListener::bind(&rt, "127.0.0.1:0").expect(&rt, "a port");
         let address = listener.local_addr().expect(&rt, "an address");

@@ -5,11 +5,19 @@
 #[cfg(test)]
 mod clients;
 #[cfg(test)]
+mod clock;
+#[cfg(test)]
+mod close_output;
+#[cfg(test)]
 mod connections;
+#[cfg(test)]
+mod dialogues;
 #[cfg(test)]
 mod failing_streams;
 #[cfg(test)]
 mod line_session;
+#[cfg(test)]
+mod nesting;
 #[cfg(test)]
 mod wakeups;
 #[cfg(test)]

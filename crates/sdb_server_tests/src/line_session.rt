@@ -124,13 +124,11 @@ fn output_of(alloc: Global, clock: ListClock, lines: &str) -> Vec<u8> {
 
 #[test]
 fn run_lines_at_exit_writes_the_same(rt: HostRuntime) {
-    let clock = ListClock::new(Vec::new(rt.alloc()));
-    let wanted = output_of(rt.alloc(), clock, TIMESTAMP_LINES);
-    let mut reader = CountingReader::new(TIMESTAMP_LINES.as_bytes());
+    let mut reader = CountingReader::new(FETCH.as_bytes());
     let mut writer = CountingWriter::new(Vec::new(rt.alloc()));
     let (table, clock) = (Table::new(rt.alloc()), ListClock::new(Vec::new(rt.alloc())));
     let outcome = run_lines_at_exit(rt.alloc(), &table, clock, &mut reader, &mut writer);
-    assert!(rt; outcome.is_ok() && writer.stream.as_slice() == wanted.as_slice());
+    assert!(rt; outcome.is_ok() && writer.stream.as_slice() == COMPLETE_OUTPUT.as_bytes());
 }
 
 #[test]

@@ -4,7 +4,7 @@ ghost use Rattle.sdb_backend.specs.PassModel.{IsPassOfBackend};
 use sdb_backend::{Backend, Pass};
 use sdb_oplog::{Key, Moment};
 use sdb_projection::Table;
-use sdb_server::{Clock, DeadlineStream, ListClock, SystemClock, serve};
+use sdb_server::{Clock, DeadlineStream, ListClock, SystemClock, moment_since, serve};
 use sdb_submit::Desk;
 use sdb_subscribe::SubId;
 use std::alloc::Global;
@@ -12,6 +12,7 @@ use std::io;
 use std::io::{ErrorKind, Read, Write};
 use std::process::Abort;
 use std::sync::Wait;
+use std::time::Duration;
 use tungstenite::{NoMask, Role, WebSocket};
 
 // A client's stream with so many reads without bytes before and after these bytes, and then a
@@ -259,6 +260,22 @@ fn a_binary_message_is_refused_and_reads_the_clock(rt: HostRuntime) {
 fn the_system_clock_counts_milliseconds_since_1970(rt: HostRuntime) {
     let milliseconds = SystemClock::new(&rt).now().milliseconds();
     assert!(rt; milliseconds > 1_700_000_000_000 && milliseconds < 17_000_000_000_000);
+}
+
+// The moment of a time since 1970 is its whole milliseconds, within the range of moments.
+#[test]
+fn a_time_since_1970_has_a_moment(rt: HostRuntime) {
+    for (elapsed, milliseconds) in [
+        (None, 0),
+        (Some(Duration::from_micros(1_999)), 1),
+        (
+            Some(Duration::from_millis(1_700_000_000_123)),
+            1_700_000_000_123,
+        ),
+        (Some(Duration::MAX), 9_007_199_254_740_991),
+    ] {
+        assert!(rt; moment_since(elapsed).milliseconds() == milliseconds);
+    }
 }
 
 pub(crate) fn document_key(rt: &impl Abort, alloc: Global) -> Key {

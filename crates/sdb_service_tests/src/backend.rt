@@ -3,6 +3,7 @@ ghost use Rattle.std.specs.Prelude.{◌≡◌};
 ghost use Rattle.sdb_backend.specs.PassModel.{pass_number, IsHostOfBackend, IsPassOfBackend};
 
 use crate::helpers::{counter_of, create_counter, increment, key, stored_version, submission};
+use crate::submit::TryRecorder;
 use sdb_backend::{
     Audit, Backend, CloseError, CloseRefused, Host, Pass, submit_is_atomic, take_is_fifo,
 };
@@ -85,7 +86,7 @@ fn create<R: Wait + Drop>(
         backend,
         pass,
         key,
-        &submission,
+        submission,
         Moment::zero(),
         &NoGate,
     );
@@ -121,7 +122,7 @@ fn add_at<R: Wait + Drop>(
 {
     let submission = submission_of_pass(rt, alloc, pass, seq, None, increment(rt, alloc, 1));
     let now = Moment::new(milliseconds).expect(rt, "a moment");
-    let reply = submit(alloc, backend, pass, key, &submission, now, &NoGate);
+    let reply = submit(alloc, backend, pass, key, submission, now, &NoGate);
     assert!(rt; stored_version(&reply).is_some());
 }
 
@@ -198,12 +199,12 @@ fn submit_unblocked<R: Wait + Drop>(
     backend: &Backend<R>,
     mut pass: Pass,
     key: &Key,
-    submission: &Submission,
+    submission: Submission,
     answered: &AtomicU64,
     last: &AtomicU64,
 ) -> (Pass, Option<(u64, usize)>)
     requires pass { IsPassOfBackend pass backend.now }
-    requires by { submission.now.by ≡ pass_number pass }
+    requires by { submission.by ≡ pass_number pass }
     ensures { IsPassOfBackend result.0 backend.now }
 {
     wait_for(last, 1);
@@ -226,12 +227,12 @@ fn submit_blocked<R: Wait + Drop>(
     backend: &Backend<R>,
     mut pass: Pass,
     key: &Key,
-    submission: &Submission,
+    submission: Submission,
     answered: &AtomicU64,
     last: &AtomicU64,
 ) -> (Pass, Option<(u64, usize)>)
     requires pass { IsPassOfBackend pass backend.now }
-    requires by { submission.now.by ≡ pass_number pass }
+    requires by { submission.by ≡ pass_number pass }
     ensures { IsPassOfBackend result.0 backend.now }
 {
     let gate = BlockingGate { answered, last };
@@ -268,12 +269,12 @@ fn a_blocked_submission_blocks_no_other(rt: HostRuntime) {
             requires pass { IsPassOfBackend slow backend }
             requires by { first.by ≡ pass_number slow }
             ensures { IsPassOfBackend result.0 backend }
-        { submit_blocked(alloc, &backend, slow, &key, &first, &answered, &last) },
+        { submit_blocked(alloc, &backend, slow, &key, first, &answered, &last) },
         || -> (Pass, Option<(u64, usize)>)
             requires pass { IsPassOfBackend quick backend }
             requires by { second.by ≡ pass_number quick }
             ensures { IsPassOfBackend result.0 backend }
-        { submit_unblocked(alloc, &backend, quick, &key, &second, &answered, &last) },
+        { submit_unblocked(alloc, &backend, quick, &key, second, &answered, &last) },
     );
     assert!(rt;
         early == Some((1, 0))
@@ -281,6 +282,23 @@ fn a_blocked_submission_blocks_no_other(rt: HostRuntime) {
             && late == Some((2, 1))
             && fetch_counter(&rt, &backend, &mut slow, &key) == Some(15)
     );
+}
+
+#[test]
+fn two_passes_are_compared(rt: HostRuntime) {
+    let alloc = rt.alloc();
+    let TestBackend {
+        backend,
+        mut first,
+        mut second,
+        ..
+    } = open_backend(&rt, alloc, rt);
+    let key = key(&rt, alloc, "1");
+    create(&rt, alloc, &backend, &mut first, &key);
+    add_at(&rt, alloc, &backend, &mut second, &key, 1, 5);
+    backend.compare(&mut first, &mut second, &key);
+    backend.forget(&mut first, &key);
+    assert!(rt; fetch_counter(&rt, &backend, &mut first, &key) == Some(1));
 }
 
 fn is_entry_of(entry: &Entry, source: &str, seq: u64) -> bool {
@@ -322,7 +340,8 @@ fn submit_edit<R: Wait + Drop>(
     ensures { IsPassOfBackend pass.new backend.now }
 {
     let now = Moment::zero();
-    let reply = submit(alloc, backend, pass, key, submission, now, &NoGate);
+    let copy = submission.try_clone().expect(rt, "out of memory");
+    let reply = submit(alloc, backend, pass, key, copy, now, &NoGate);
     let (version, _) = stored_version(&reply).expect(rt, "stored");
     read_back(rt, backend, pass, key, submission, version);
     reply
@@ -509,6 +528,38 @@ fn documents_of_all_shards_are_listed_in_order(rt: HostRuntime) {
     assert!(rt; audit.log(&key(&rt, alloc, "3")).is_none());
 }
 
+// Enters the passes of the numbers from 1 on, without the end.
+fn enter_many<R: Wait + Drop>(rt: &impl Abort, backend: &Backend<R>, host: &mut Host, end: u64)
+    requires { IsHostOfBackend host.old backend.now }
+    ensures { IsHostOfBackend host.new backend.now }
+{
+    for number in 1..end {
+        let pass = backend.enter(host).expect(rt, "a pass");
+        assert!(rt; pass.number() == number, "{number}");
+    }
+}
+
+#[test]
+fn more_than_a_thousand_passes_enter(rt: HostRuntime) {
+    let (backend, mut host) = Backend::new(rt.alloc(), rt).expect(&rt, "out of memory");
+    enter_many(&rt, &backend, &mut host, 1_101);
+}
+
+#[test]
+fn an_atomic_submission_calls_its_gate(rt: HostRuntime) {
+    let alloc = rt.alloc();
+    let TestBackend {
+        backend,
+        mut first,
+        ..
+    } = open_backend(&rt, alloc, rt);
+    let (key, gate) = (key(&rt, alloc, "1"), TryRecorder::new());
+    let submission = submission_of_pass(&rt, alloc, &first, 1, None, create_counter(&rt, alloc));
+    let now = Moment::zero();
+    let reply = submit_is_atomic(alloc, &backend, &mut first, &key, submission, now, &gate);
+    assert!(rt; stored_version(&reply) == Some((0, 0)) && gate.digits.get() == 1);
+}
+
 // Opens a queue of the pass that starts at version 0.
 fn open_queue<R: Wait + Drop>(
     rt: &impl Abort,
@@ -541,7 +592,7 @@ fn store_many<R: Wait + Drop>(
             backend,
             &mut pass,
             key,
-            &submission,
+            submission,
             Moment::zero(),
             &NoGate,
         );

@@ -5,10 +5,13 @@ ghost use Rattle.sdb_oplog.specs.Keys.{plain_key};
 ghost use Rattle.sdb_desk.specs.View.{plain_attempt};
 ghost use Rattle.sdb_service_tests.specs.Seen.{IsSeen, StaySeen};
 
-use crate::helpers::{content, key, number_of, stored_version, submission};
+use crate::helpers::{
+    content, counter_of, create_counter, key, number_of, stored_version, submission, text,
+};
 use sdb_desk::{Attempt, Outcome, Reply, Shard, Work};
 use sdb_oplog::{Code, Content, Entry, Key, Moment, Submission};
 use sdb_subscribe::SubId;
+use sdb_value::{Step, find_mut};
 use std::alloc::Global;
 use std::process::Abort;
 
@@ -285,6 +288,9 @@ fn a_work_is_stored_once(rt: HostRuntime) {
             && duplicate_version(&second) == Some(1)
             && document.version_and_number(&rt) == (2, Some(5))
     );
+    // The attempt shows the version under which the work was stored.
+    let attempt = work.into_attempt();
+    assert!(rt; attempt.look.repeat == Some(1) && attempt.submission.seq() == 1);
 }
 
 // Fetches a version; returns the number of cached snapshots and the number of the document.
@@ -370,6 +376,30 @@ fn only_its_owner_takes_from_and_closes_a_queue(rt: HostRuntime) {
         !has_queue(&rt, &mut document, 0, id)
             && document.shard.queues() == 0
             && ring_len(&document, id).is_none()
+    );
+}
+
+// A document that a shard returns is shared: `find_mut` finds nothing below its root, and the
+// document and the shard's own are unchanged.
+#[test]
+fn find_mut_finds_nothing_in_a_fetched_document(rt: HostRuntime) {
+    let alloc = rt.alloc();
+    let mut document = TestDocument::empty(&rt, alloc);
+    let create = create_counter(&rt, alloc);
+    document.store(&rt, submission(&rt, alloc, "w", 1, None, create, 0));
+    let fetched = document
+        .shard
+        .fetch(&document.key)
+        .expect(&rt, "out of memory");
+    let mut value = fetched.snapshot.expect(&rt, "a document");
+    let path = [Step::Key(text(&rt, alloc, "n"))];
+    assert!(rt; find_mut(&mut value, &path).is_none());
+    let again = document
+        .shard
+        .fetch(&document.key)
+        .expect(&rt, "out of memory");
+    assert!(rt;
+        counter_of(Some(&value)) == Some(0) && counter_of(again.snapshot.as_ref()) == Some(0)
     );
 }
 

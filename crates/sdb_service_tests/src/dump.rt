@@ -2,7 +2,7 @@
 use crate::helpers::{key, text};
 use sdb_dump::{DumpFault, check_dump};
 use sdb_lines::{CountingReader, CountingWriter};
-use sdb_steps::run_dump;
+use sdb_steps::{World, dump, read_step, run_dump};
 use std::alloc::Global;
 use std::process::Abort;
 
@@ -10,12 +10,12 @@ const EMPTY: &str = r#"{"dump":2}
 {"entries":0}
 "#;
 
-const CREATE: &str =
+pub(crate) const CREATE: &str =
     r#"{"s":0,"do":"begin","c":"b","d":"1","src":"w","seq":1,"create":{"type":"http://sharejs.org/types/JSONv0","data":{"n":0}}}
 {"s":0,"do":"commit","ms":100}
 {"s":0,"do":"no step"}"#;
 
-const CREATED: &str = r#"{"dump":2}
+pub(crate) const CREATED: &str = r#"{"dump":2}
 {"arrived":{"create":{"data":{"n":0},"type":"http://sharejs.org/types/JSONv0"},"v":null},"by":0,"c":"b","create":{"data":{"n":0},"type":"http://sharejs.org/types/JSONv0"},"d":"1","m":100,"seq":1,"src":"w","v":0,"via":"b"}
 {"entries":1}
 "#;
@@ -140,7 +140,7 @@ const CREATE_STEPS: &str =
 "#;
 
 // Returns the dump after these steps.
-fn dump_of(rt: &impl Abort, alloc: Global, steps: &str) -> Vec<u8> {
+pub(crate) fn dump_of(rt: &impl Abort, alloc: Global, steps: &str) -> Vec<u8> {
     let mut reader = CountingReader::new(steps.as_bytes());
     let mut writer = CountingWriter::new(Vec::new(alloc));
     run_dump(alloc, &mut reader, &mut writer).expect(rt, "out of memory");
@@ -153,6 +153,21 @@ fn check(alloc: Global, dump: &[u8]) -> Result<(u64, u128), DumpFault> {
     let checked = check_dump(alloc, &mut reader)?;
     Ok((checked.documents, checked.entries))
 }
+
+// The dump after RETRY. The second edit is rebased on the first.
+const RETRY_DUMP: &str = r#"{"dump":2}
+{"arrived":{"create":{"data":{"n":0},"type":"http://sharejs.org/types/JSONv0"},"v":null},"by":0,"c":"b","create":{"data":{"n":0},"type":"http://sharejs.org/types/JSONv0"},"d":"1","m":0,"seq":1,"src":"w","v":0,"via":"b"}
+{"arrived":{"op":[{"na":5,"p":["n"]}],"v":1},"by":2,"c":"b","d":"1","m":0,"op":[{"na":5,"p":["n"]}],"seq":1,"src":"y","v":1,"via":"b"}
+{"arrived":{"op":[{"na":10,"p":["n"]}],"v":1},"by":1,"c":"b","d":"1","m":0,"op":[{"na":10,"p":["n"]}],"seq":1,"src":"x","v":2,"via":"b"}
+{"entries":3}
+"#;
+
+// The dump after DUPLICATE, which stores the edit of session 2 alone.
+const DUPLICATE_DUMP: &str = r#"{"dump":2}
+{"arrived":{"create":{"data":{"n":0},"type":"http://sharejs.org/types/JSONv0"},"v":null},"by":0,"c":"b","create":{"data":{"n":0},"type":"http://sharejs.org/types/JSONv0"},"d":"1","m":0,"seq":1,"src":"w","v":0,"via":"b"}
+{"arrived":{"op":[{"na":5,"p":["n"]}],"v":1},"by":2,"c":"b","d":"1","m":0,"op":[{"na":5,"p":["n"]}],"seq":1,"src":"x","v":1,"via":"b"}
+{"entries":2}
+"#;
 
 // Returns the steps of a document with 74 edits.
 fn steps_of_many_edits(rt: &impl Abort, alloc: Global) -> String {
@@ -173,7 +188,12 @@ fn steps_of_many_edits(rt: &impl Abort, alloc: Global) -> String {
 
 #[test]
 fn dumps_are_written(rt: HostRuntime) {
-    for (steps, dump) in [("", EMPTY), (CREATE, CREATED)] {
+    for (steps, dump) in [
+        ("", EMPTY),
+        (CREATE, CREATED),
+        (RETRY, RETRY_DUMP),
+        (DUPLICATE, DUPLICATE_DUMP),
+    ] {
         assert!(rt;
             dump_of(&rt, rt.alloc(), steps).as_slice() == dump.as_bytes(),
             "{dump}"
@@ -222,5 +242,83 @@ fn a_checked_dump_has_its_logs(rt: HostRuntime) {
     for (id, entries) in [("1", Some(2)), ("2", Some(1)), ("3", None)] {
         let key = key(&rt, rt.alloc(), id);
         assert!(rt; checked.log(&key).map(|log| log.len()) == entries, "{id}");
+    }
+}
+
+#[test]
+fn a_world_is_dumped(rt: HostRuntime) {
+    let mut world = World::new(rt.alloc()).expect(&rt, "out of memory");
+    for line in CREATE.lines() {
+        if let Ok(step) = read_step(rt.alloc(), line) {
+            drop(world.step(step));
+        }
+    }
+    let mut writer = CountingWriter::new(Vec::new(rt.alloc()));
+    assert!(rt; dump(rt.alloc(), &world, &mut writer) == Ok(1));
+    assert!(rt; writer.stream.as_slice() == CREATED.as_bytes());
+}
+
+// Returns the line of an entry that creates the document, made by the pass of this number.
+fn created_line(rt: &impl Abort, alloc: Global, id: u64, by: u64, data: &str) -> String {
+    let create = format!(in alloc;
+        r#"{{"data":"{data}","type":"http://sharejs.org/types/JSONv0"}}"#
+    );
+    let create = create.expect(rt, "out of memory");
+    let arrived = format!(in alloc;
+        r#"{{"arrived":{{"create":{create},"v":null}},"by":{by},"c":"b""#
+    );
+    let arrived = arrived.expect(rt, "out of memory");
+    let stored = format!(in alloc; r#""create":{create},"d":"{id}","m":7,"seq":1,"src":"w","v":0"#);
+    let stored = stored.expect(rt, "out of memory");
+    format!(in alloc; "{arrived},{stored},\"via\":\"b\"}}\n").expect(rt, "out of memory")
+}
+
+// Returns a dump of these lines.
+fn dump_of_lines(rt: &impl Abort, alloc: Global, lines: &str, count: u64) -> String {
+    format!(in alloc; "{{\"dump\":2}}\n{lines}{{\"entries\":{count}}}\n").expect(
+        rt,
+        "out of memory",
+    )
+}
+
+// Each line has more than twice the length of the longest message.
+#[test]
+fn dump_lines_have_any_length(rt: HostRuntime) {
+    let alloc = rt.alloc();
+    let mut data = String::new(alloc);
+    for _ in 0..22_000 {
+        data.push_str("fifty letters of a text that is longer than a line")
+            .expect(&rt, "out of memory");
+    }
+    let lines = created_line(&rt, alloc, 1, 0, data.as_str());
+    assert!(rt; lines.len() > 2_200_000);
+    let dump = dump_of_lines(&rt, alloc, lines.as_str(), 1);
+    assert!(rt; check(alloc, dump.as_bytes()) == Ok((1, 1)));
+}
+
+// The ids have four digits, so that their numbers are in the order of their bytes.
+#[test]
+fn a_dump_has_any_number_of_documents_and_passes(rt: HostRuntime) {
+    let (alloc, mut lines) = (rt.alloc(), String::new(rt.alloc()));
+    for id in 1_000..3_100 {
+        let line = created_line(&rt, alloc, id, id, "");
+        lines.push_str(line.as_str()).expect(&rt, "out of memory");
+    }
+    let dump = dump_of_lines(&rt, alloc, lines.as_str(), 2_100);
+    assert!(rt; check(alloc, dump.as_bytes()) == Ok((2_100, 2_100)));
+}
+
+#[test]
+fn faults_display_their_texts(rt: HostRuntime) {
+    for (fault, wanted) in [
+        (DumpFault::WrongLine { line: 37 }, "wrong at line 37"),
+        (
+            DumpFault::ReadFailed,
+            "the dump could not be read to its end",
+        ),
+        (DumpFault::OutOfMemory, "out of memory"),
+    ] {
+        let displayed = fault.to_string(rt.alloc()).expect(&rt, "out of memory");
+        assert!(rt; displayed.as_str() == wanted, "{wanted}");
     }
 }

@@ -9,13 +9,19 @@ mod desk;
 #[cfg(test)]
 mod dump;
 #[cfg(test)]
+mod dump_streams;
+#[cfg(test)]
 mod growths;
 #[cfg(test)]
 mod helpers;
 #[cfg(test)]
 mod projection;
 #[cfg(test)]
+mod reconnect;
+#[cfg(test)]
 mod session;
+#[cfg(test)]
+mod step_runs;
 #[cfg(test)]
 mod steps;
 #[cfg(test)]

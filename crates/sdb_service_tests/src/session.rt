@@ -4,11 +4,10 @@ use crate::helpers::text;
 use sdb_desk::Shard;
 use sdb_oplog::Moment;
 use sdb_projection::Table;
-use sdb_session::{OpTextCache, Session};
+use sdb_session::Session;
 use sdb_submit::Solo;
 use std::alloc::Global;
 use std::process::Abort;
-use std::sync::Arc;
 
 pub(crate) fn new_session(rt: &impl Abort, alloc: Global, source: &str) -> Session {
     Session::new(alloc, text(rt, alloc, source))
@@ -67,7 +66,7 @@ const OPENING: &str =
 
 pub(crate) const SUBSCRIBE: &str = r#"{"a":"s","c":"b","d":"1"}"#;
 
-const SUBSCRIBED: &str = r#"{"a":"s","c":"b","d":"1","data":{"type":null,"v":0}}"#;
+pub(crate) const SUBSCRIBED: &str = r#"{"a":"s","c":"b","d":"1","data":{"type":null,"v":0}}"#;
 
 pub(crate) const FETCH: &str = r#"{"a":"f","c":"b","d":"1"}"#;
 
@@ -127,8 +126,41 @@ fn store_edits(
     }
 }
 
-// Checks that all operations are listed, and that lists from a later version are suffixes of the
-// list.
+// The message of the operation that creates the document.
+const OP_MESSAGE: &str =
+    r#"{"a":"op","c":"b","create":{"data":0,"type":"http://sharejs.org/types/JSONv0"},"d":"1","seq":1,"src":"s1","v":0}"#;
+
+// Returns the message of the operation at this version.
+fn message_at(rt: &impl Abort, alloc: Global, version: usize) -> String {
+    if version == 0 {
+        return text(rt, alloc, OP_MESSAGE);
+    }
+    let edit = r#"{"a":"op","c":"b","d":"1","op":[{"na":1,"p":[]}],"seq":"#;
+    let seq = version.saturating_add(1);
+    format!(in alloc; r#"{edit}{seq},"src":"s1","v":{version}}}"#).expect(rt, "out of memory")
+}
+
+// Checks that the list has the messages from the version on, and this end.
+fn assert_messages(
+    rt: &impl Abort,
+    alloc: Global,
+    list: &[String],
+    from: usize,
+    length: usize,
+    end: &str,
+) {
+    assert!(rt; list.len().saturating_add(from) == length.saturating_add(1));
+    for (at, message) in list.iter().enumerate() {
+        let version = from.saturating_add(at);
+        if version == length {
+            assert!(rt; message.as_str() == end);
+        } else {
+            assert!(rt; message.as_str() == message_at(rt, alloc, version).as_str());
+        }
+    }
+}
+
+// Checks the lists of all operations and from later versions.
 fn assert_list(
     rt: &impl Abort,
     alloc: Global,
@@ -137,20 +169,13 @@ fn assert_list(
     kind: &str,
     length: usize,
 ) {
-    let all = format!(in alloc; r#"{{"a":"{kind}","c":"b","d":"1","v":0}}"#).expect(
-        rt,
-        "out of memory",
-    );
-    let all = server.answers_to(rt, session, all.as_str());
-    assert!(rt; all.len().saturating_sub(1) == length);
-    for from in [1, length / 2, length.saturating_sub(1)] {
-        let rest = format!(in alloc; r#"{{"a":"f","c":"b","d":"1","v":{from}}}"#).expect(
-            rt,
-            "out of memory",
-        );
-        let rest = server.answers_to(rt, session, rest.as_str());
-        assert!(rt; rest.len() == all.len().saturating_sub(from));
-        assert!(rt; rest.first() == all.get(from));
+    for from in [0, 1, length / 2, length.saturating_sub(1)] {
+        let list = format!(in alloc; r#"{{"a":"{kind}","c":"b","d":"1","v":{from}}}"#);
+        let list = list.expect(rt, "out of memory");
+        let list = server.answers_to(rt, session, list.as_str());
+        let end = format!(in alloc; r#"{{"a":"{kind}","c":"b","d":"1"}}"#);
+        let end = end.expect(rt, "out of memory");
+        assert_messages(rt, alloc, list.as_slice(), from, length, end.as_str());
     }
 }
 
@@ -213,34 +238,4 @@ fn each_acknowledgement_names_its_source(rt: HostRuntime) {
     assert!(rt; server.answers_to(&rt, &mut session, create).len() == 1);
     store_edits_of_sources(&rt, alloc, &mut server, &mut session, 0);
     store_edits_of_sources(&rt, alloc, &mut server, &mut session, 20);
-}
-
-const CREATE: &str = r#"{"a":"op","c":"b","d":"1","seq":1,"create":{"type":"json0","data":0}}"#;
-
-const CREATED: &str = r#"{"a":"op","c":"b","d":"1","seq":1,"src":"s1","v":0}"#;
-
-// The message of that operation to other subscribers.
-const OP_MESSAGE: &str =
-    r#"{"a":"op","c":"b","create":{"data":0,"type":"http://sharejs.org/types/JSONv0"},"d":"1","seq":1,"src":"s1","v":0}"#;
-
-// Sessions that share a text cache send the messages of a session without one.
-#[test]
-fn sessions_with_a_text_cache_send_equal_messages(rt: HostRuntime) {
-    let alloc = rt.alloc();
-    let texts = Arc::new(alloc, OpTextCache::new(alloc).expect(&rt, "out of memory"));
-    let texts = texts.ok().expect(&rt, "out of memory");
-    let mut server = TestServer::new(alloc);
-    let mut first = new_session(&rt, alloc, "s1");
-    let mut second = new_session(&rt, alloc, "s2");
-    let mut third = new_session(&rt, alloc, "s3");
-    let mut fourth = new_session(&rt, alloc, "s4");
-    second.use_text_cache(Arc::try_clone(&texts).expect(&rt, "shared"));
-    third.use_text_cache(texts);
-    assert!(rt; server.answers(&mut second, SUBSCRIBE, SUBSCRIBED));
-    assert!(rt; server.answers(&mut third, SUBSCRIBE, SUBSCRIBED));
-    assert!(rt; server.answers(&mut fourth, SUBSCRIBE, SUBSCRIBED));
-    assert!(rt; server.answers(&mut first, CREATE, CREATED));
-    assert!(rt; server.receives(&mut second, OP_MESSAGE));
-    assert!(rt; server.receives(&mut third, OP_MESSAGE));
-    assert!(rt; server.receives(&mut fourth, OP_MESSAGE));
 }

@@ -19,12 +19,12 @@ use std::process::Abort;
 
 // A gate that records the numbers of the tries as decimal digits.
 #[derive(Drop)]
-struct TryRecorder {
-    digits: Cell<u64>,
+pub(crate) struct TryRecorder {
+    pub(crate) digits: Cell<u64>,
 }
 
 impl TryRecorder {
-    fn new() -> TryRecorder {
+    pub(crate) fn new() -> TryRecorder {
         TryRecorder {
             digits: Cell::new(0),
         }
@@ -71,6 +71,8 @@ impl Desk for ContendedStore {
     // A step of the machine, at some logs and queues.
     ghost step = { λ d k c p a q.
         (l : Logs) × ((n : QueuesByKey) × MachineStep 0 (record { logs = l; queues = n }) k c a (machine_of q.shard)) };
+
+    ghost caches_step = { λ d k c p q. ⊤ };
 
     ghost has_seen = { λ d k a p. IsLook (logs_of p.shard k) a };
 
@@ -185,11 +187,11 @@ impl Desk for ContendedStore {
     }
 }
 
-// Returns the submission under test, which adds 100 and has base version 1.
-fn add_hundred(rt: &impl Abort, alloc: Global) -> Submission
+// Returns the submission under test, which adds 100.
+fn add_hundred(rt: &impl Abort, alloc: Global, version: Option<u64>) -> Submission
     ensures { result.by ≡ 0 }
 {
-    submission(rt, alloc, "x", 1, Some(1), increment(rt, alloc, 100), 0)
+    submission(rt, alloc, "x", 1, version, increment(rt, alloc, 100), 0)
 }
 
 // Returns a shard with the document `{"n":0}`.
@@ -214,18 +216,50 @@ fn nine_increments(rt: &impl Abort, alloc: Global) -> Vec<Submission> {
 fn one_caller_commits_at_its_first_try(rt: HostRuntime) {
     let key = key(&rt, rt.alloc(), "1");
     let mut shard = shard_with_counter(&rt, rt.alloc(), &key);
-    let (submission, gate) = (add_hundred(&rt, rt.alloc()), TryRecorder::new());
+    let submission = add_hundred(&rt, rt.alloc(), Some(1));
+    let gate = TryRecorder::new();
     let reply = submit(
         rt.alloc(),
         &Solo,
         &mut shard,
         &key,
-        &submission,
+        submission,
         Moment::zero(),
         &gate,
     );
     assert!(rt; stored_version(&reply) == Some((1, 0)));
     assert!(rt; gate.digits.get() == 1);
+}
+
+// Returns the reply to the submission to the document `{"n":0}`, and the tries.
+fn submit_alone(rt: &impl Abort, alloc: Global, submission: Submission) -> (Reply, u64)
+    requires { submission.by ≡ 0 }
+{
+    let key = key(rt, alloc, "1");
+    let (mut shard, gate) = (shard_with_counter(rt, alloc, &key), TryRecorder::new());
+    let now = Moment::zero();
+    let reply = submit(alloc, &Solo, &mut shard, &key, submission, now, &gate);
+    (reply, gate.digits.get())
+}
+
+fn refusal(reply: &Reply) -> Option<Code> {
+    match reply {
+        Reply::Refused(code) => Some(*code),
+        _ => None,
+    }
+}
+
+// A submission without a base version, and ones that are refused.
+#[test]
+fn the_gate_is_called_before_each_commit(rt: HostRuntime) {
+    let alloc = rt.alloc();
+    let (reply, tries) = submit_alone(&rt, alloc, add_hundred(&rt, alloc, None));
+    assert!(rt; (stored_version(&reply), tries) == (Some((1, 0)), 1));
+    let (reply, tries) = submit_alone(&rt, alloc, add_hundred(&rt, alloc, Some(7)));
+    assert!(rt; refusal(&reply) == Some(Code::E4) && tries == 1);
+    let create = submission(&rt, alloc, "x", 1, None, create_counter(&rt, alloc), 0);
+    let (reply, tries) = submit_alone(&rt, alloc, create);
+    assert!(rt; refusal(&reply) == Some(Code::E6) && tries == 1);
 }
 
 fn contended_shard(rt: &impl Abort, alloc: Global, key: &Key) -> ContendedShard {
@@ -241,6 +275,7 @@ fn submit_contended(
     alloc: Global,
     pass: &mut ContendedShard,
     key: &Key,
+    version: Option<u64>,
     gate: &TryRecorder,
 ) -> Reply {
     let now = Moment::zero();
@@ -249,7 +284,7 @@ fn submit_contended(
         &ContendedStore,
         pass,
         key,
-        &add_hundred(rt, alloc),
+        add_hundred(rt, alloc, version),
         now,
         gate,
     )
@@ -263,10 +298,13 @@ fn read_counter(rt: &impl Abort, shard: &mut Shard, key: &Key) -> (u64, Option<i
 
 #[test]
 fn commit_last_decides_after_eight_tries(rt: HostRuntime) {
-    let (key, gate) = (key(&rt, rt.alloc(), "1"), TryRecorder::new());
-    let mut pass = contended_shard(&rt, rt.alloc(), &key);
-    let reply = submit_contended(&rt, rt.alloc(), &mut pass, &key, &gate);
-    assert!(rt; stored_version(&reply) == Some((9, 8)));
-    assert!(rt; gate.digits.get() == 12_345_678);
-    assert!(rt; read_counter(&rt, &mut pass.shard, &key) == (10, Some(108)));
+    let key = key(&rt, rt.alloc(), "1");
+    for (version, missed) in [(Some(1), 8), (None, 0)] {
+        let gate = TryRecorder::new();
+        let mut pass = contended_shard(&rt, rt.alloc(), &key);
+        let reply = submit_contended(&rt, rt.alloc(), &mut pass, &key, version, &gate);
+        assert!(rt; stored_version(&reply) == Some((9, missed)));
+        assert!(rt; gate.digits.get() == 12_345_678);
+        assert!(rt; read_counter(&rt, &mut pass.shard, &key) == (10, Some(108)));
+    }
 }

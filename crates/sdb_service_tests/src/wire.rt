@@ -3,7 +3,7 @@
 use crate::helpers::{content, key, submission, text};
 use sdb_oplog::{Code, Content, Entry, Moment};
 use sdb_wire::{
-    Answer, Echo, MESSAGE_LIMIT, OpText, Request, empty_echo, entry_value, read_message, reply_text,
+    Answer, Echo, MESSAGE_LIMIT, Request, empty_echo, entry_value, read_message, reply_text,
 };
 use std::alloc::Global;
 use std::process::Abort;
@@ -70,6 +70,36 @@ fn errors_have_a_code_and_a_message(rt: HostRuntime) {
     );
 }
 
+// Returns the code that refuses an edit with this number.
+fn refusal_of_number(rt: &impl Abort, alloc: Global, number: &str) -> Option<Code> {
+    let edit = format!(in alloc;
+        r#"{{"a":"op","c":"b","d":"1","seq":1,"op":[{{"p":[],"na":{number}}}]}}"#
+    );
+    let edit = edit.expect(rt, "out of memory");
+    match read_message(alloc, edit.as_str()) {
+        Ok(_) => None,
+        Err(refusal) => Some(refusal.code),
+    }
+}
+
+#[test]
+fn numbers_out_of_range_are_badly_formed(rt: HostRuntime) {
+    for (number, code) in [
+        ("9007199254740991", None),
+        ("9007199254740992", Some(Code::E3)),
+        ("9223372036854775807", Some(Code::E3)),
+        ("9223372036854775808", Some(Code::E3)),
+        ("18446744073709551615", Some(Code::E3)),
+        ("18446744073709551616", Some(Code::E3)),
+        ("-9223372036854775809", Some(Code::E3)),
+    ] {
+        assert!(rt;
+            refusal_of_number(&rt, rt.alloc(), number) == code,
+            "{number}"
+        );
+    }
+}
+
 // Returns whether the entry at version 4 with this content, source x and seq 7 has this JSON value.
 fn has_entry_value(rt: &impl Abort, alloc: Global, content: Content, wanted: &str) -> bool {
     let arrived = submission(rt, alloc, "x", 7, None, content, 7);
@@ -100,38 +130,4 @@ fn entries_are_printed_as_values(rt: HostRuntime) {
     );
     let edit = content(&rt, rt.alloc(), r#"{"op":[{"na":2,"p":[]}]}"#);
     assert!(rt; has_entry_value(&rt, rt.alloc(), edit, EDITED));
-}
-
-// Returns an entry that creates the document.
-fn entry_that_creates(rt: &impl Abort, alloc: Global, version: u64) -> Entry {
-    let create = content(rt, alloc, r#"{"create":{"type":"json0","data":0}}"#);
-    let submission = submission(rt, alloc, "x", 1, None, create, 0);
-    Entry::new(version, Moment::zero(), None, submission)
-}
-
-// The cached text of an operation message is the text of the message, and belongs to no other entry
-// or document.
-#[test]
-fn a_cached_op_text_belongs_to_its_entry(rt: HostRuntime) {
-    let alloc = rt.alloc();
-    let (entry, next) = (
-        entry_that_creates(&rt, alloc, 0),
-        entry_that_creates(&rt, alloc, 1),
-    );
-    let (key_1, key_2) = (key(&rt, alloc, "1"), key(&rt, alloc, "2"));
-    let cached = OpText::new(alloc, &key_1, &entry).expect(&rt, "out of memory");
-    let answer = Answer::OpMessage {
-        key: &key_1,
-        entry: &entry,
-        content: entry.content(),
-    };
-    let message = reply_text(alloc, &answer).expect(&rt, "out of memory");
-    let again = reply_text(alloc, &Answer::OpText { text: &cached }).expect(&rt, "out of memory");
-    assert!(rt;
-        cached.as_str() == message.as_str()
-            && again.as_str() == message.as_str()
-            && cached.is_text_of(&key_1, &entry)
-            && !cached.is_text_of(&key_1, &next)
-            && !cached.is_text_of(&key_2, &entry)
-    );
 }

@@ -31,9 +31,12 @@ module _ {P : Type 0} (acts : PlainKey → CallRelation P) where
   unfolding CloseAllCalls
   closed_none p = refl
 
-pub output_more : (t : List PlainProjection) (source : List ℕ) (xs : List PlainTake) (x : PlainTake) → pump_answers t source (xs ++ x ∷ []) ≡ pump_answers t source xs ++ take_answers t source x
-output_more t source [] x = append-nil (take_answers t source x)
-output_more t source (y ∷ xs) x = ap (λ l. take_answers t source y ++ l) (output_more t source xs x) ∙ sym (append_assoc (take_answers t source y) (pump_answers t source xs) (take_answers t source x))
+pub output_more : (t : List PlainProjection) (by : ℕ) (source : List ℕ) (xs : List PlainTake) (x : PlainTake)
+    → pump_answers t by source (xs ++ x ∷ []) ≡ pump_answers t by source xs ++ take_answers t by source x
+output_more t by source [] x = append-nil (take_answers t by source x)
+output_more t by source (y ∷ xs) x =
+    ap (λ l. take_answers t by source y ++ l) (output_more t by source xs x)
+    ∙ sym (append_assoc (take_answers t by source y) (pump_answers t by source xs) (take_answers t by source x))
 
 pub counts_more : (xs : List PlainTake) (x : PlainTake) → pump_count (xs ++ x ∷ []) ≡ pump_count xs + length x.entries
 counts_more [] x = omega arith

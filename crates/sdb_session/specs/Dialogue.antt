@@ -201,7 +201,7 @@ machine_after_pump (s ∷ subs) m = machine_after_pump subs (machine_after_take 
 -- the entries of each queue in order, except the session's own
 abbrev pub pump_transition : List PlainProjection → State → Transition
 pump_transition t s = record {
-  answers = pump_answers t s.session.source (pump_takes s.session.subs s.machine);
+  answers = pump_answers t pass_zero s.session.source (pump_takes s.session.subs s.machine);
   state = record { machine = machine_after_pump s.session.subs s.machine; session = s.session };
 }
 

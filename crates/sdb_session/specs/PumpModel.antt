@@ -1,5 +1,5 @@
 -- Pumps: one read of each queue, and the answers for the entries read.
-use Rattle.std.specs.Prelude.{◌≡◌, ℕ, ◌+◌, ◌⊎◌, List, [], ◌∷◌, ◌++◌, length, map, filter, Bool, not, ◌&&◌, Option, Some, bytes_eq}
+use Rattle.std.specs.Prelude.{◌≡◌, ℕ, ◌+◌, ◌⊎◌, List, [], ◌∷◌, ◌++◌, length, map, filter, Bool, nat_eq, not, ◌&&◌, Option, Some, bytes_eq}
 use Rattle.sdb_oplog.specs.Plain.{PlainEntry}
 use Rattle.sdb_oplog.specs.Keys.{PlainKey}
 use Rattle.sdb_projection.specs.Table.{PlainProjection}
@@ -15,19 +15,20 @@ pub record PlainTake : Type 0 where
   pub sub : PlainSubscription
   pub entries : List PlainEntry
 
--- whether the entry has this source and came through this collection name
-abbrev pub is_own_entry : List ℕ → PlainKey → PlainEntry → Bool
-is_own_entry source k e = bytes_eq e.arrived.src source && bytes_eq e.arrived.via k.collection
+-- whether the session of this pass number and source submitted the entry through this collection name
+abbrev pub is_own_entry : ℕ → List ℕ → PlainKey → PlainEntry → Bool
+is_own_entry by source k e = nat_eq e.arrived.by by && (bytes_eq e.arrived.src source && bytes_eq e.arrived.via k.collection)
 
-abbrev pub entries_of_others : List ℕ → PlainKey → List PlainEntry → List PlainEntry
-entries_of_others source k = filter (λ e. not (is_own_entry source k e))
+abbrev pub entries_of_others : ℕ → List ℕ → PlainKey → List PlainEntry → List PlainEntry
+entries_of_others by source k = filter (λ e. not (is_own_entry by source k e))
 
-abbrev pub take_answers : List PlainProjection → List ℕ → PlainTake → List PlainAnswer
-take_answers t source x = entry_answers (projection_of_key t x.sub.key) x.sub.key (entries_of_others source x.sub.key x.entries)
+abbrev pub take_answers : List PlainProjection → ℕ → List ℕ → PlainTake → List PlainAnswer
+take_answers t by source x =
+    entry_answers (projection_of_key t x.sub.key) x.sub.key (entries_of_others by source x.sub.key x.entries)
 
-abbrev pub pump_answers : List PlainProjection → List ℕ → List PlainTake → List PlainAnswer
-pump_answers t source [] = []
-pump_answers t source (x ∷ xs) = take_answers t source x ++ pump_answers t source xs
+abbrev pub pump_answers : List PlainProjection → ℕ → List ℕ → List PlainTake → List PlainAnswer
+pump_answers t by source [] = []
+pump_answers t by source (x ∷ xs) = take_answers t by source x ++ pump_answers t by source xs
 
 abbrev pub pump_count : List PlainTake → ℕ
 pump_count [] = 0
@@ -43,10 +44,10 @@ module _ {P : Type 0} (acts : PlainKey → CallRelation P) (max : ℕ) where
   TakeCalls (x ∷ xs) p q = (m : P) × (TakeCall x.sub.queue p (Some x.entries) m × TakeCalls xs m q)
 
   -- each queue is read, in the order of the subscriptions, and the answers for its entries are written
-  abbrev pub PumpRelation : List PlainProjection → PlainSession → P → ℕ → (List PlainAnswer → Type 0) → P → Type 0
-  PumpRelation t s p count says q =
+  abbrev pub PumpRelation : List PlainProjection → ℕ → PlainSession → P → ℕ → (List PlainAnswer → Type 0) → P → Type 0
+  PumpRelation t by s p count says q =
       (xs : List PlainTake)
-      × ((map (λ x. x.sub) xs ≡ s.subs) × TakeCalls xs p q × (count ≡ pump_count xs) × says (pump_answers t s.source xs))
+      × ((map (λ x. x.sub) xs ≡ s.subs) × TakeCalls xs p q × (count ≡ pump_count xs) × says (pump_answers t by s.source xs))
 
   -- some of the queues were read, in order, and perhaps one more read was made
   abbrev pub PumpInterrupted : PlainSession → P → P → Type 0

@@ -4,7 +4,7 @@ use Rattle.std.specs.Borrow.{Bor}
 use Rattle.std.specs.Option.{is_some}
 use Rattle.std.specs.declared.alloc.AllocError.{AllocError}
 use Rattle.std.specs.declared.alloc.Global.{Global}
-use Rattle.sdb_json.specs.declared.tree.JsonTree.{JsonTree}
+use Rattle.json.specs.declared.value.Value.{Value}
 use Rattle.sdb_oplog.specs.Plain.{PlainEntry}
 use Rattle.sdb_oplog.specs.Keys.{plain_key}
 use Rattle.sdb_oplog.specs.declared.keys.Key.{Key}
@@ -36,7 +36,7 @@ abbrev pub has_ended : Session → Bool
 has_ended s = is_some s.ended
 
 -- the echo of a message, as an error repeats it
-abbrev pub echo_of_message : Option (Bor JsonTree) → PlainEcho
+abbrev pub echo_of_message : Option (Bor (Value Global)) → PlainEcho
 echo_of_message m = echo_or_empty (option_map (λ v. v.now) m)
 
 abbrev pub plain_projection_option : Option (Bor Projection) → Option PlainProjection

@@ -11,7 +11,6 @@ ghost use Rattle.sdb_wire.specs.Answers.{op_message, failed, subscribed};
 ghost use Rattle.sdb_wire.specs.View.{plain_answer};
 
 use crate::answer_sink::AnswerSink;
-use crate::op_text_cache::OpTextCache;
 use crate::projection::{DocumentRef, projected_content, projected_document};
 use sdb_desk::{Reply, SubscribeResult};
 use sdb_json::JsonTree;
@@ -87,48 +86,9 @@ pub(crate) fn write_entries<O: AnswerSink>(
     Ok(())
 }
 
-// Writes the operation message of an entry, using the shared cache of texts.
-pub(crate) fn write_cached_entry<O: AnswerSink>(
-    alloc: Global,
-    texts: Option<&OpTextCache>,
-    projection: Option<&Projection>,
-    key: &Key,
-    entry: &Entry,
-    out: &mut O,
-) -> Result<(), AllocError>
-    ensures { OnOk result (WroteAnswers O.items (O.contents out.old) (O.contents out.new)
-        (op_message (plain_key key.now) (projected_entry (plain_projection_option projection.entry) entry.now) ∷ [])) }
-{
-    match (texts, projection) {
-        (Some(texts), None) => {
-            let text = texts.get_or_render(alloc, key, entry)?;
-            write_answer(alloc, &Answer::OpText { text: &text }, out)
-        }
-        _ => write_entry(alloc, projection, key, entry, out),
-    }
-}
-
-// Writes the operation messages of entries, using the shared cache of texts.
-fn write_cached_entries<O: AnswerSink>(
-    alloc: Global,
-    texts: Option<&OpTextCache>,
-    target: &DocumentRef<'_>,
-    entries: &[Entry],
-    out: &mut O,
-) -> Result<(), AllocError>
-    ensures { OnOk result (WroteAnswers O.items (O.contents out.old) (O.contents out.new)
-        (entry_answers (plain_projection_option target.now.projection) (plain_key target.now.key.now) entries.now)) }
-{
-    for entry in entries {
-        write_cached_entry(alloc, texts, target.projection, target.key, entry, out)?;
-    }
-    Ok(())
-}
-
 // Writes the operation messages of entries, then the answer that follows them.
 fn write_missed_entries<O: AnswerSink>(
     alloc: Global,
-    texts: Option<&OpTextCache>,
     target: &DocumentRef<'_>,
     entries: &[Entry],
     last: &Answer<'_>,
@@ -138,7 +98,7 @@ fn write_missed_entries<O: AnswerSink>(
         (entry_answers (plain_projection_option target.now.projection) (plain_key target.now.key.now) entries.now
         ++ plain_answer last.now ∷ [])) }
 {
-    write_cached_entries(alloc, texts, target, entries, out)?;
+    write_entries(alloc, target, entries, out)?;
     write_answer(alloc, last, out)
 }
 
@@ -146,7 +106,6 @@ fn write_missed_entries<O: AnswerSink>(
 // acknowledgement.
 pub(crate) fn write_reply<O: AnswerSink>(
     alloc: Global,
-    texts: Option<&OpTextCache>,
     target: &DocumentRef<'_>,
     message: Option<&JsonTree<'_>>,
     submission: &Submission,
@@ -167,7 +126,7 @@ pub(crate) fn write_reply<O: AnswerSink>(
                 seq,
                 version: *v,
             };
-            write_missed_entries(alloc, texts, target, missed.as_slice(), &last, out)
+            write_missed_entries(alloc, target, missed.as_slice(), &last, out)
         }
         Reply::Repeat { v } => {
             let answer = Answer::Acknowledged {

@@ -264,16 +264,9 @@ impl Session {
         };
         let now = sent.now;
         let submission = self.submission(key, sent, desk.by(pass))?;
-        let reply = submit(self.alloc, desk, pass, base, &submission, now, &NoGate);
-        write_reply(
-            self.alloc,
-            self.texts(),
-            &target,
-            message,
-            &submission,
-            &reply,
-            out,
-        )
+        let copy = submission.try_clone()?;
+        let reply = submit(self.alloc, desk, pass, base, copy, now, &NoGate);
+        write_reply(self.alloc, &target, message, &submission, &reply, out)
     }
 
     // Creates a message's submission. Without a source it gets the session's.

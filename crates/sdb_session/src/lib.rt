@@ -6,13 +6,11 @@ mod answers;
 mod dispatch;
 mod interner;
 mod listing;
-mod op_text_cache;
 mod projection;
 mod pump;
 mod session;
 mod subscriptions;
 
 pub use answer_sink::AnswerSink;
-pub use op_text_cache::OpTextCache;
 pub use pump::Pumped;
 pub use session::{Ended, Session};

@@ -9,7 +9,7 @@ ghost use Rattle.sdb_session.specs.Responses.{entry_answers};
 ghost use Rattle.sdb_wire.specs.Answers.{answer_text};
 
 use crate::answer_sink::AnswerSink;
-use crate::answers::write_cached_entry;
+use crate::answers::write_entry;
 use crate::session::{Ended, Session};
 use crate::subscriptions::take_entries;
 use sdb_oplog::{Entry, Key};
@@ -52,7 +52,7 @@ impl Session {
         // An ended session doesn't call the desk.
         ensures no_call_after_end { has_ended self.old ≡ true → pass.new ≡ pass.old }
         ensures pumped { IfOk result (λ r. PumpRelation (D.step desk.now) max table.now
-            (plain_session self.old) pass.old r.taken
+            (D.pass_number desk.now pass.old) (plain_session self.old) pass.old r.taken
             (λ answers. map string_bytes r.texts.items ≡ map answer_text answers) pass.new) }
         ensures interrupted { OnErr result (PumpInterrupted (D.step desk.now) max
             (plain_session self.old) pass.old pass.new) }
@@ -65,8 +65,9 @@ impl Session {
     }
 
     /// Reads at most `max` entries from each queue, in the order of the subscriptions, and writes
-    /// those that aren't the session's own. An entry is its own if it has the session's source and
-    /// came through the subscription's collection name. Returns the number of entries read.
+    /// those that aren't the session's own. An entry is its own if this pass submitted it with the
+    /// session's source, through the subscription's collection name. So an entry that an earlier
+    /// connection of the source submitted is written. Returns the number of entries read.
     ///
     /// It doesn't allocate if no entry waits.
     ///
@@ -91,7 +92,7 @@ impl Session {
         // An ended session doesn't call the desk.
         ensures no_call_after_end { has_ended self.old ≡ true → pass.new ≡ pass.old }
         ensures pumped { IfOk result (λ taken. PumpRelation (D.step desk.now) max table.now
-            (plain_session self.old) pass.old taken
+            (D.pass_number desk.now pass.old) (plain_session self.old) pass.old taken
             (WroteAnswers O.items (O.contents out.old) (O.contents out.new)) pass.new) }
         // After an error the first queues were read.
         ensures interrupted { OnErr result (PumpInterrupted (D.step desk.now) max
@@ -118,16 +119,17 @@ impl Session {
         ensures accepted { D.accepts desk.now pass.new }
         ensures number_unchanged { D.pass_number desk.now pass.new ≡ D.pass_number desk.now pass.old }
         ensures pumped { IfOk result (λ taken. PumpRelation (D.step desk.now) max table.now
-            (plain_session self.now) pass.old taken
+            (D.pass_number desk.now pass.old) (plain_session self.now) pass.old taken
             (WroteAnswers O.items (O.contents out.old) (O.contents out.new)) pass.new) }
         ensures interrupted { OnErr result (PumpInterrupted (D.step desk.now) max
             (plain_session self.now) pass.old pass.new) }
     {
+        let by = desk.by(pass);
         let mut taken: u128 = 0;
         for (key, queue) in self.subscriptions.iter() {
             let entries = take_entries(self.alloc, desk, pass, &queue.base, queue.id, max)?;
             taken += entries.len() as u128;
-            self.write_entries_of_others(table, key, entries.as_slice(), out)?;
+            self.write_entries_of_others(by, table, key, entries.as_slice(), out)?;
         }
         Ok(taken)
     }
@@ -135,6 +137,7 @@ impl Session {
     // Writes the entries that aren't the session's own.
     fn write_entries_of_others<O: AnswerSink>(
         &self,
+        by: u64,
         table: &Table,
         key: &Key,
         entries: &[Entry],
@@ -142,23 +145,25 @@ impl Session {
     ) -> Result<(), AllocError>
         ensures { OnOk result (WroteAnswers O.items (O.contents out.old) (O.contents out.new)
             (entry_answers (projection_of_key table.now (plain_key key.now)) (plain_key key.now)
-            (entries_of_others (plain_session self.now).source (plain_key key.now) entries.now))) }
+            (entries_of_others by (plain_session self.now).source (plain_key key.now) entries.now))) }
     {
         let projection = table.find(key.collection.as_str());
         for entry in entries {
-            if !self.is_own(key, entry) {
-                write_cached_entry(self.alloc, self.texts(), projection, key, entry, out)?;
+            if !self.is_own(by, key, entry) {
+                write_entry(self.alloc, projection, key, entry, out)?;
             }
         }
         Ok(())
     }
 
-    // Returns whether the entry has the session's source and came through this collection name.
-    fn is_own(&self, key: &Key, entry: &Entry) -> bool
-        ensures { result ≡ is_own_entry (plain_session self.now).source (plain_key key.now) entry.now }
+    // Returns whether the session of this pass submitted the entry through this collection name.
+    fn is_own(&self, by: u64, key: &Key, entry: &Entry) -> bool
+        ensures { result ≡ is_own_entry by (plain_session self.now).source (plain_key key.now) entry.now }
     {
         let arrived = entry.arrived();
-        arrived.src() == self.source.as_str() && arrived.via() == key.collection.as_str()
+        arrived.by() == by
+            && arrived.src() == self.source.as_str()
+            && arrived.via() == key.collection.as_str()
     }
 
     /// Ends the session by closing its queues. It doesn't allocate.

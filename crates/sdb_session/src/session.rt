@@ -10,7 +10,6 @@ ghost use Rattle.sdb_wire.specs.Wire.{empty_echo, parse_message};
 use crate::answer_sink::AnswerSink;
 use crate::answers::{write_answer, write_refusal};
 use crate::interner::NameInterner;
-use crate::op_text_cache::OpTextCache;
 use crate::subscriptions::Subscription;
 use indexmap::IndexMap;
 use sdb_json::Scratch;
@@ -19,7 +18,6 @@ use sdb_projection::Table;
 use sdb_submit::Desk;
 use sdb_wire::{Answer, Message, empty_echo, parse_message, reply_text};
 use std::alloc::{AllocError, Global};
-use std::sync::Arc;
 
 /// Maximum number of subscriptions of one session.
 pub const SUBSCRIPTION_LIMIT: usize = 64;
@@ -48,7 +46,6 @@ pub struct Session {
     pub(crate) subscriptions: IndexMap<Key, Subscription>,
     pub(crate) names: NameInterner,
     pub(crate) last_path: PathInterner,
-    texts: Option<Arc<OpTextCache>>,
     // Scratch memory of the parser, kept between messages.
     scratch: Option<Box<Scratch>>,
     pub(crate) ended: Option<Ended>,
@@ -73,24 +70,9 @@ impl Session {
             subscriptions: IndexMap::new(alloc),
             names: NameInterner::new(alloc),
             last_path: PathInterner::new(),
-            texts: None,
             scratch: None,
             ended: None,
         }
-    }
-
-    /// Shares a cache of operation texts with other sessions. Without it the session renders each
-    /// text.
-    pub fn use_text_cache(&mut self, texts: Arc<OpTextCache>)
-        ensures session { plain_session self.new ≡ plain_session self.old }
-        ensures ended_unchanged { has_ended self.new ≡ has_ended self.old }
-    {
-        self.texts = Some(texts);
-    }
-
-    // Returns the shared cache of texts.
-    pub(crate) fn texts(&self) -> Option<&OpTextCache> {
-        self.texts.as_deref()
     }
 
     /// Returns the opening message, which contains the source.

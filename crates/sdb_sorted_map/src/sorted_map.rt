@@ -1,5 +1,5 @@
 //! The sorted map.
-ghost use Rattle.std.specs.Prelude.{◌≡◌, ◌<◌, ◌^◌, [], map, true, false, None, length, string_bytes, option_map, is_some, IfOk, IfErr, IfSome, OnOk, OnErr};
+ghost use Rattle.std.specs.Prelude.{◌≡◌, ◌<◌, ◌^◌, [], map, true, false, Some, None, length, string_bytes, option_map, is_some, IfOk, IfErr, IfSome, OnOk, OnErr};
 ghost use Rattle.std.proofs.Props.{props};
 ghost use Rattle.std.specs.Map.{lookup, remove_entry};
 ghost use Rattle.std.specs.BTreeMap.{insert_entry, is_at};
@@ -181,8 +181,10 @@ impl<V: TryClone> SortedMap<V> {
     /// Borrows the value of a key mutably. Returns `None` if the key is absent, its chunk is shared
     /// or the entries are in groups.
     pub fn get_mut(&mut self, key: &str) -> Option<&mut V>
-        ensures { is_unique_map self.old ≡ true → option_map (λ v. V.model v.now) result
+        ensures unique { is_unique_map self.old ≡ true → option_map (λ v. V.model v.now) result
             ≡ lookup (is_at (compare_bytes key.now)) (map_entry_models V.model self.old) }
+        ensures found { IfSome result (λ v. lookup (is_at (compare_bytes key.now)) (map_entry_models V.model self.old)
+            ≡ Some (V.model v.now)) }
     {
         match self.position_of(key) {
             Ok(index) => entry_value_mut(&mut self.entries, index),

@@ -1,5 +1,5 @@
 //! A mutable borrow of a value.
-ghost use Rattle.std.specs.Prelude.{◌≡◌, option_map, slice_get, true, false};
+ghost use Rattle.std.specs.Prelude.{◌≡◌, option_map, slice_get, true, false, Some, IfSome};
 ghost use Rattle.std.specs.Borrow.{LendsSo, sem};
 ghost use Rattle.sdb_chunks.specs.ChunkedVec.{vec_models, is_grouped, is_unique_vec_at};
 ghost use Rattle.sdb_sorted_map.specs.MapEntry.{entry_model};
@@ -20,6 +20,8 @@ pub(crate) fn entry_value_mut<V: TryClone>(
     ensures value { is_unique_vec_at entries.old index ≡ true → is_grouped entries.old.repr ≡ false
         → option_map (λ v. V.model v.now) result
         ≡ option_map (λ e. e.1) (slice_get (vec_models (entry_model V.model) entries.old) index) }
+    ensures found { IfSome result (λ v. option_map (λ e. e.1)
+        (slice_get (vec_models (entry_model V.model) entries.old) index) ≡ Some (V.model v.now)) }
 {
     let member = entries.get_mut(index)?;
     Some(&mut member.value)

@@ -1,5 +1,5 @@
 -- A commit of the shard as a commit of the attempt.
-use Rattle.std.proofs.Common.{◌≡◌, ℕ, ◌+◌, ◌<◌, List, length, Bool, true, false, ◌||◌, nat_eq, Option, Some, None, inl, inr, refl, sym, ap, ◌∙◌, arith}
+use Rattle.std.proofs.Common.{◌≡◌, ℕ, ◌+◌, ◌<◌, List, length, Bool, true, false, ◌||◌, ◌&&◌, not, nat_eq, Option, Some, None, inl, inr, refl, sym, ap, ◌∙◌, arith}
 use Rattle.std.specs.Option.{is_some}
 use Rattle.std.proofs.lemmas.Bool.{eq-eqb, eqb-true}
 use Rattle.std.proofs.lemmas.Bool.Decides.{nat_tests}
@@ -9,13 +9,17 @@ use Rattle.sdb_oplog.specs.Keys.{PlainKey, Logs, with_log}
 use Rattle.sdb_oplog.specs.Decide.{PlainReply, refused, decide, decide_allocates}
 use Rattle.sdb_oplog.specs.laws.LogLaws.{decide_not_out_of_memory}
 use Rattle.sdb_desk.specs.ShardView.{logs_of, queues_of}
-use Rattle.sdb_desk.specs.Machine.{PlainLook, PlainAttempt, decided, moved, CommitAllocates, CommitsOrOutOfMemory, DecidesOrOutOfMemory}
+use Rattle.sdb_desk.specs.Looks.{IsLook}
+use Rattle.sdb_desk.specs.Machine.{PlainLook, PlainAttempt, look_allocates, work_allocates, decided, moved, CommitAllocates, CommitsOrOutOfMemory, DecidesOrOutOfMemory}
 use Rattle.sdb_desk.specs.declared.shard.Shard.{Shard}
 use Rattle.sdb_steps.specs.OneStep as machine
 use Rattle.sdb_steps.specs.OneStep.{OneStep, machine_after_event}
 use Rattle.sdb_steps.specs.Picks as plain
 use Rattle.sdb_steps.specs.Dispatch.{AttemptCommits}
-use Rattle.sdb_steps.specs.StateView.{one_step_of_shard}
+use Rattle.sdb_steps.specs.LookInvariant.{attempt_in}
+use Rattle.sdb_steps.specs.StateView.{one_step_of_shard, attempt_at}
+use Rattle.sdb_steps.specs.declared.session_data.Phase.{Phase}
+use Rattle.sdb_steps.specs.declared.session_data.Phase.TheVariants.{Looked, Moved, Worked}
 
 -- ---- the machine of a shard
 
@@ -26,6 +30,29 @@ stored_core : (m n : Shard) (k : PlainKey) (s : PlainSubmission) (now : ℕ) →
 stored_core m n k s now l q = λ i. record { logs = l i; issued_ids = λ j. (q i j).next }
 
 -- ---- tries
+
+-- the attempt of a phase with a look at the log, or at a prefix of it
+pub attempt_is : (m : OneStep) (k : PlainKey) (s : Phase) (n : ℕ) → IsLook (m.logs k) (attempt_in s) → attempt_in s ≡ plain.attempt_with_look m (attempt_at k s n)
+attempt_is m k (Looked a) n h = λ i. record { submission = a.submission; look = h.is i }
+attempt_is m k (Moved w l) n h = λ i. record { submission = w.submission; look = h.is i }
+attempt_is m k (Worked w) n h = λ i. record { submission = w.submission; look = h.is i }
+
+-- its work
+pub work_of_attempt : (m : OneStep) (k : PlainKey) (s : Phase) (n : ℕ) → IsLook (m.logs k) (attempt_in s) → work_allocates (attempt_in s) ≡ true → plain.attempt_work_allocates m (attempt_at k s n) ≡ true
+work_of_attempt m k s n h wants = ap work_allocates (sym (attempt_is m k s n h)) ∙ wants
+
+or_left : (b c : Bool) → b ≡ true → (b || c) ≡ true
+or_left true c h = refl
+or_left false c h = cc
+
+or_right : (b c : Bool) → c ≡ true → (b || c) ≡ true
+or_right true c h = refl
+or_right false c h = h
+
+-- a new look after a work that failed to allocate
+looks_unworked : (b : Bool) (worked takes : Bool) → worked ≡ false → takes ≡ true → (b || (not worked && takes)) ≡ true
+looks_unworked b true takes none wants = cc
+looks_unworked b false takes none wants = or_right b takes wants
 
 -- the attempt of a work
 abbrev pub attempt_of : PlainKey → PlainAttempt → ℕ → Bool → plain.PlainOpenAttempt
@@ -51,6 +78,17 @@ commit_allocates : (logs new : Logs) (k : PlainKey) (w : PlainAttempt) (now : �
 commit_allocates logs new k w now r is (inl h) e = takes_if (logs k) w h.2 e
 commit_allocates logs new k w now r is (inr h) e = absurd (decide_not_out_of_memory (logs k) w.submission now (sym h.1 ∙ is))
 
+looks_if : (log : List PlainEntry) (w : PlainAttempt) (last : Bool) → CommitAllocates log w → (nat_eq (length log) w.look.version || last) ≡ false → look_allocates log w.submission ≡ true
+looks_if log w last (inl h) none = h.1
+looks_if log w last (inr h) none =
+    let same : nat_eq (length log) w.look.version ≡ true = eq-eqb (length log) w.look.version h.0 in
+    let never : true ≡ false = sym (ap (λ b. b || last) same) ∙ none in cc
+
+commit_looks : (logs new : Logs) (k : PlainKey) (w : PlainAttempt) (now : ℕ) (r : PlainReply) (last : Bool) → r ≡ refused E10 → CommitsOrOutOfMemory logs k w now (decided r) new
+    → (nat_eq (length (logs k)) w.look.version || last) ≡ false → look_allocates (logs k) w.submission ≡ true
+commit_looks logs new k w now r last is (inl h) none = looks_if (logs k) w last h.2 none
+commit_looks logs new k w now r last is (inr h) none = absurd (decide_not_out_of_memory (logs k) w.submission now (sym h.1 ∙ is))
+
 pub tries_out_of_memory : (m n : Shard) (k : PlainKey) (w : PlainAttempt) (now : ℕ) (r : PlainReply) (tries : ℕ) (worked : Bool) (o : plain.PlainOpenAttempt) → tries < 8 → r ≡ refused E10 → CommitsOrOutOfMemory (logs_of m) k w now (decided r) (logs_of n) → queues_of n ≡ queues_of m
     → o ≡ attempt_of k w tries worked → AttemptCommits (one_step_of_shard m) (attempt_of k w tries worked) now plain.out_of_memory (one_step_of_shard n) (Some o)
 tries_out_of_memory m n k w now r tries worked o few is h q same =
@@ -58,15 +96,18 @@ tries_out_of_memory m n k w now r tries worked o few is h q same =
       same_core m n (commit_out_of_memory (logs_of m) (logs_of n) k w now r is h) q,
       ap Some same,
       (λ d. commit_allocates (logs_of m) (logs_of n) k w now r is h (eqb-true (length (logs_of m k)) w.look.version (or_first (nat_eq (length (logs_of m k)) w.look.version) (nat_eq tries 8) more d))),
+      (λ d. or_left _ _ (commit_looks (logs_of m) (logs_of n) k w now r (nat_eq tries 8) is h d)),
     )
 
 -- an unworked attempt for a log that has grown
-pub unworked_out_of_memory : (m : Shard) (a o : plain.PlainOpenAttempt) (now : ℕ) → a.tries < 8 → (length (logs_of m a.key) ≡ a.looked_version → ⊥) → o ≡ a → AttemptCommits (one_step_of_shard m) a now plain.out_of_memory (one_step_of_shard m) (Some o)
-unworked_out_of_memory m a o now few apart same =
+pub unworked_out_of_memory : (m : Shard) (a o : plain.PlainOpenAttempt) (now : ℕ) → a.tries < 8 → (length (logs_of m a.key) ≡ a.looked_version → ⊥) → o ≡ a
+    → a.is_worked ≡ false → plain.attempt_work_allocates (one_step_of_shard m) a ≡ true → AttemptCommits (one_step_of_shard m) a now plain.out_of_memory (one_step_of_shard m) (Some o)
+unworked_out_of_memory m a o now few apart same none wants =
     let more : nat_eq a.tries 8 ≡ false = grind (arith, nat_tests) in (
       refl,
       ap Some same,
       (λ d. absurd (apart (eqb-true (length (logs_of m a.key)) a.looked_version (or_first (nat_eq (length (logs_of m a.key)) a.looked_version) (nat_eq a.tries 8) more d)))),
+      (λ d. looks_unworked (look_allocates (logs_of m a.key) a.submission) a.is_worked (plain.attempt_work_allocates (one_step_of_shard m) a) none wants),
     )
 
 -- an attempt decides on the ninth try, and if the log hasn't grown since the look
@@ -98,9 +139,9 @@ tries_moved m n k w now l tries worked o few h q is =
 
 -- ---- the ninth try
 
-pub now_out_of_memory : (m n : Shard) (a : plain.PlainOpenAttempt) (now : ℕ) (r : PlainReply) → r ≡ refused E10 → DecidesOrOutOfMemory (logs_of m) a.key a.submission now r (logs_of n) → queues_of n ≡ queues_of m → AttemptCommits (one_step_of_shard m) a now plain.out_of_memory (one_step_of_shard n) (Some a)
-now_out_of_memory m n a now r is (inl h) q = (same_core m n h.1 q, refl, (λ d. h.2))
-now_out_of_memory m n a now r is (inr h) q = absurd (decide_not_out_of_memory (logs_of m a.key) a.submission now (sym h.0 ∙ is))
+pub now_out_of_memory : (m n : Shard) (a : plain.PlainOpenAttempt) (now : ℕ) (r : PlainReply) → plain.is_deciding (one_step_of_shard m) a ≡ true → r ≡ refused E10 → DecidesOrOutOfMemory (logs_of m) a.key a.submission now r (logs_of n) → queues_of n ≡ queues_of m → AttemptCommits (one_step_of_shard m) a now plain.out_of_memory (one_step_of_shard n) (Some a)
+now_out_of_memory m n a now r due is (inl h) q = (same_core m n h.1 q, refl, (λ d. h.2), (λ d. let never : true ≡ false = sym due ∙ d in cc))
+now_out_of_memory m n a now r due is (inr h) q = absurd (decide_not_out_of_memory (logs_of m a.key) a.submission now (sym h.0 ∙ is))
 
 pub now_decided : (m n : Shard) (a : plain.PlainOpenAttempt) (now : ℕ) (r : PlainReply) → plain.is_deciding (one_step_of_shard m) a ≡ true → (r ≡ refused E10 → ⊥) → DecidesOrOutOfMemory (logs_of m) a.key a.submission now r (logs_of n) → queues_of n ≡ queues_of m → AttemptCommits (one_step_of_shard m) a now (plain.reply_answer (machine.decided r)) (one_step_of_shard n) None
 now_decided m n a now r due enough (inl h) q = absurd (enough h.0)

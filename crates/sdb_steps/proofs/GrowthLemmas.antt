@@ -59,7 +59,7 @@ grows_comes m n w v s (reply_answer r) k h = grows_follows m n (effect m s.sessi
 grows_comes m n w v s (notice_answer b) k h = grows_follows m n (effect m s.session (w s.session) s.act) (notice_answer b) h.0 k h.1
 grows_comes m n w v s out_of_memory k h = subst (λ (o : OneStep). LogExtends (m.logs k) (o.logs k)) (sym h.0) (same_log (m.logs k))
 
-grows_step : (m n : OneStep) (w v : SessionStates) (s : PlainSessionStep) (a : PlainStepAnswer) (k : PlainKey) → IsStep m w s a n v → LogExtends (m.logs k) (n.logs k)
+pub grows_step : (m n : OneStep) (w v : SessionStates) (s : PlainSessionStep) (a : PlainStepAnswer) (k : PlainKey) → IsStep m w s a n v → LogExtends (m.logs k) (n.logs k)
 grows_step m n w v s a k h = grows_comes m n w v s a k (step_relation m n w v s a h)
 
 pub grows_steps : (m n : OneStep) (w v : SessionStates) (steps : List PlainSessionStep) (answers : List PlainStepAnswer) (k : PlainKey) → AreSteps m w steps answers n v → LogExtends (m.logs k) (n.logs k)

@@ -1,3 +1,4 @@
+pub mod CacheLemmas
 pub mod CommitLemmas
 pub mod ContinuationLemmas
 pub mod DumpLemmas

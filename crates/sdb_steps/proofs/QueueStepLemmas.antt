@@ -21,7 +21,7 @@ use Rattle.sdb_steps.specs.OneStep as machine
 use Rattle.sdb_steps.specs.OneStep.{OneStep, machine_after_event, reply_to_event, start_result, with_id_issued}
 use Rattle.sdb_steps.specs.Picks as plain
 use Rattle.sdb_steps.specs.Picks.{SessionState, PlainStepAnswer, reply_answer, notice_answer, out_of_memory, subscribe_effect, take_effect, effect, effect_allocates, with_queue}
-use Rattle.sdb_steps.specs.Dispatch.{FollowsEffect, DispatchesAct, AttemptCommits, AttemptBegins}
+use Rattle.sdb_steps.specs.Dispatch.{FollowsEffect, DispatchesAct, AttemptCommits, AttemptBegins, AttemptWorks}
 use Rattle.sdb_steps.specs.StateView.{position_in_queues}
 use Rattle.sdb_steps.specs.QueuePosition.{QueuePosition, position_of_queue, advance_position as read_on}
 use Rattle.sdb_steps.specs.Slots.{PlainQueueSlots, SlotsOpen, OtherQueuesUnchanged, close_in}
@@ -186,7 +186,7 @@ refused_step log by v q w code (inr h) = inr (start_refused (nat_lt (length log)
 
 -- ---- the machine
 
-subscribe_wants : (m : OneStep) (x : SessionState) (k : PlainKey) (v : Option ℕ) (r : Result ℕ Code) → start_result m k v ≡ r → is_ok r ≡ true → effect_allocates m (subscribe_effect x k v r) ≡ true
+subscribe_wants : (m : OneStep) (x : SessionState) (k : PlainKey) (v : Option ℕ) (r : Result ℕ Code) → start_result m k v ≡ r → is_ok r ≡ true → effect_allocates m x.attempt (subscribe_effect x k v r) ≡ true
 subscribe_wants m x k v (Ok start) e ok = ap is_ok e
 subscribe_wants m x k v (Err code) e ok = cc
 
@@ -400,7 +400,7 @@ module _ (i : ℕ) (q0 q1 : QueuesByKey) (l0 l1 : PlainKey → List PlainEntry) 
 
     pub take_out_of_memory : (max : ℕ) → is_nonempty (pending_entries (l0 k) max own_queue) ≡ true → s1 ≡ s0 → q1 ≡ q0 → DispatchesAct i (core_at l0 q0) (seen_by a q0 s0) (plain.take k max) out_of_memory (core_at l1 q1) (seen_by a q1 s1)
     take_out_of_memory max some e q = (
-      ap (effect_allocates (core_at l0 q0)) (take_deed max (core_at l0 q0)) ∙ some,
+      ap (effect_allocates (core_at l0 q0) a) (take_deed max (core_at l0 q0)) ∙ some,
       core_unchanged,
       (λ j. record { attempt = a; queues = λ b. position_in_queues (q j b) (e j b) }),
     )
@@ -450,10 +450,34 @@ moves_if : (b : Bool) (m n : OneStep) (x : SessionState) (now : ℕ) (a : plain.
 moves_if true m n x now a v o is h g e = cc
 moves_if false m n x now a v o is h g e = (ap notice_answer h, g, ap (plain.with_attempt x) e)
 
-wants_if : (b : Bool) (m : OneStep) (x : SessionState) (now : ℕ) (a : plain.PlainOpenAttempt) → (b ≡ true → decide_allocates (m.logs a.key) a.submission ≡ true)
-    → effect_allocates m (cond b (plain.event (machine.submission a.key a.submission now) (plain.with_attempt x None)) (plain.notice plain.moved (plain.with_attempt x (Some (plain.look_again m a))))) ≡ true
-wants_if true m x now a h = h refl
-wants_if false m x now a h = refl
+wants_if : (b : Bool) (m : OneStep) (x : SessionState) (now : ℕ) (a : plain.PlainOpenAttempt) → (b ≡ true → decide_allocates (m.logs a.key) a.submission ≡ true) → (b ≡ false → plain.new_look_allocates m a ≡ true)
+    → effect_allocates m (Some a) (cond b (plain.event (machine.submission a.key a.submission now) (plain.with_attempt x None)) (plain.notice plain.moved (plain.with_attempt x (Some (plain.look_again m a))))) ≡ true
+wants_if true m x now a h g = h refl
+wants_if false m x now a h g = g refl
+
+-- the work of a session's attempt
+work_deed : (i : ℕ) (m : OneStep) (x : SessionState) (a : plain.PlainOpenAttempt) (b : Bool) → x.attempt ≡ Some a → a.is_worked ≡ b
+    → effect m i x plain.work ≡ cond b (plain.notice plain.idle x) (plain.notice plain.worked (plain.with_attempt x (Some (plain.mark_worked a))))
+work_deed i m x a b has is =
+    ap (λ p. option_map_or (λ t. cond t.is_worked (plain.notice plain.idle x) (plain.notice plain.worked (plain.with_attempt x (Some (plain.mark_worked t))))) p (plain.notice plain.idle x)) has
+    ∙ ap (λ c. cond c (plain.notice plain.idle x) (plain.notice plain.worked (plain.with_attempt x (Some (plain.mark_worked a))))) is
+
+pub work_turn : (i : ℕ) (m : OneStep) (x : SessionState) (a b : plain.PlainOpenAttempt) (t : Bool) (answer : PlainStepAnswer) → x.attempt ≡ Some a → (t ≡ true → plain.attempt_work_allocates m a ≡ true) → AttemptWorks t a answer b → DispatchesAct i m x plain.work answer m (plain.with_attempt x (Some b))
+work_turn i m x a b t out_of_memory has takes h = (
+  ap (effect_allocates m x.attempt) (work_deed i m x a false has h.0) ∙ ap (λ o. plain.notice_allocates m o plain.worked) has ∙ takes h.2,
+  refl,
+  ap (plain.with_attempt x) (ap Some h.1 ∙ sym has),
+)
+work_turn i m x a b t (notice_answer plain.worked) has takes h =
+    subst (λ d. FollowsEffect m d (notice_answer plain.worked) m (plain.with_attempt x (Some b))) (sym (work_deed i m x a false has h.0)) (refl, refl, ap (plain.with_attempt x) (ap Some h.1))
+work_turn i m x a b t (notice_answer plain.idle) has takes h =
+    subst (λ d. FollowsEffect m d (notice_answer plain.idle) m (plain.with_attempt x (Some b))) (sym (work_deed i m x a true has h.0)) (refl, refl, ap (plain.with_attempt x) (ap Some h.1 ∙ sym has))
+work_turn i m x a b t (notice_answer plain.began) has takes h = absurd h
+work_turn i m x a b t (notice_answer plain.moved) has takes h = absurd h
+work_turn i m x a b t (notice_answer plain.unsubscribed) has takes h = absurd h
+work_turn i m x a b t (notice_answer plain.forgotten) has takes h = absurd h
+work_turn i m x a b t (notice_answer plain.full) has takes h = absurd h
+work_turn i m x a b t (reply_answer r) has takes h = absurd h
 
 -- the commit of a session's attempt
 pub commit_turn : (i : ℕ) (m n : OneStep) (x : SessionState) (now : ℕ) (a : plain.PlainOpenAttempt) (answer : PlainStepAnswer) (o : Option plain.PlainOpenAttempt) → x.attempt ≡ Some a → AttemptCommits m a now answer n o → DispatchesAct i m x (plain.commit now) answer n (plain.with_attempt x o)
@@ -462,7 +486,7 @@ commit_turn i m n x now a (reply_answer r) o has h =
 commit_turn i m n x now a (notice_answer v) o has h =
     subst (λ d. FollowsEffect m d (notice_answer v) n (plain.with_attempt x o)) (sym (ap (λ p. option_map_or (plain.commit_effect m x now) p (plain.notice plain.idle x)) has)) (moves_if (plain.is_deciding m a) m n x now a v o h.0 h.1 h.2 h.3)
 commit_turn i m n x now a out_of_memory o has h = (
-  ap (λ p. effect_allocates m (option_map_or (plain.commit_effect m x now) p (plain.notice plain.idle x))) has ∙ wants_if (plain.is_deciding m a) m x now a h.2,
+  ap (λ p. effect_allocates m p (option_map_or (plain.commit_effect m x now) p (plain.notice plain.idle x))) has ∙ wants_if (plain.is_deciding m a) m x now a h.2 h.3,
   h.0,
   ap (plain.with_attempt x) (h.1 ∙ sym has),
 )
@@ -521,7 +545,7 @@ begin_deed i m x k src seq v content none =
 
 pub begin_turn : (i : ℕ) (m : OneStep) (x : SessionState) (k : PlainKey) (src : List ℕ) (seq : ℕ) (v : Option ℕ) (content : PlainContent) (answer : PlainStepAnswer) (o : Option plain.PlainOpenAttempt) → x.attempt ≡ None
     → AttemptBegins m k (plain.submission_of_begin i k src seq v content) answer o → DispatchesAct i m x (plain.begin k src seq v content) answer m (plain.with_attempt x o)
-begin_turn i m x k src seq v content out_of_memory o none h = (ap (effect_allocates m) (begin_deed i m x k src seq v content none), refl, ap (plain.with_attempt x) (h ∙ sym none))
+begin_turn i m x k src seq v content out_of_memory o none h = (ap (effect_allocates m x.attempt) (begin_deed i m x k src seq v content none), refl, ap (plain.with_attempt x) (h ∙ sym none))
 begin_turn i m x k src seq v content (notice_answer plain.began) o none h =
     subst (λ d. FollowsEffect m d (notice_answer plain.began) m (plain.with_attempt x o)) (sym (begin_deed i m x k src seq v content none)) (refl, refl, ap (plain.with_attempt x) h)
 begin_turn i m x k src seq v content (notice_answer plain.worked) o none h = absurd h

@@ -1,4 +1,5 @@
 pub mod TakeContinuation
+pub mod Caches
 pub mod Dispatch
 pub mod Lines
 pub mod LookInvariant

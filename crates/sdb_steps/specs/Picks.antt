@@ -1,5 +1,6 @@
 -- The events that steps pick for the reference machine, and the answers to the other steps: `Picks`.
-use Rattle.std.specs.Prelude.{◌≡◌, ℕ, ◌+◌, List, [], ◌∷◌, ◌++◌, flat_map, length, if◌then◌else◌, cond, nat_eq, Bool, true, false, ◌||◌, Option, Some, None, Result, Ok, Err}
+use Rattle.std.specs.Prelude as std
+use Rattle.std.specs.Prelude.{◌≡◌, ℕ, ◌+◌, List, [], ◌∷◌, ◌++◌, flat_map, length, if◌then◌else◌, cond, nat_eq, Bool, true, false, ◌||◌, ◌&&◌, not, Option, Some, None, Result, Ok, Err}
 use Rattle.std.specs.Option.{option_map_or}
 use Rattle.std.specs.Result.{is_ok, result_ok}
 use Rattle.sdb_oplog.specs.declared.codes.Code.{Code}
@@ -9,7 +10,7 @@ use Rattle.sdb_oplog.specs.Keys.{PlainKey, keys_equal}
 use Rattle.sdb_oplog.specs.Decide.{decide_allocates}
 use Rattle.sdb_subscribe.specs.Queue.{queue}
 use Rattle.sdb_steps.specs.QueuePosition.{QueuePosition, advance_position}
-use Rattle.sdb_desk.specs.Machine.{fetch_result, snapshot_at, fetch_at_moment, read_has_document, read_has_version, is_nonempty}
+use Rattle.sdb_desk.specs.Machine.{PlainAttempt, look_at, look_allocates, work_allocates, fetch_result, snapshot_at, fetch_at_moment, read_has_document, read_has_version, is_nonempty}
 use Rattle.sdb_steps.specs.OneStep as machine
 use Rattle.sdb_steps.specs.OneStep.{OneStep, Event, EventReply, start_result, machine_after_events}
 
@@ -170,21 +171,39 @@ effect m n x (forget k) = notice forgotten x
 
 -- ---- possible allocation failures
 
--- whether the effect's reply allocates; a duplicate, E4, E11, a create on an existing document and empty reads don't
-abbrev pub effect_allocates : OneStep → Effect → Bool
-effect_allocates m (event (machine.submission k s now) x) = decide_allocates (m.logs k) s
-effect_allocates m (event (machine.fetch k) x) = read_has_document (fetch_result (m.logs k))
-effect_allocates m (event (machine.snapshot k v) x) = option_map_or read_has_version (result_ok (snapshot_at (m.logs k) v)) false
-effect_allocates m (event (machine.snapshot_at_time k t) x) = read_has_version (fetch_at_moment (m.logs k) t)
-effect_allocates m (event (machine.subscribe k v) x) = is_ok (start_result m k v)
-effect_allocates m (event (machine.take_from k from max) x) = is_nonempty (queue (m.logs k) from max)
-effect_allocates m (notice began x) = true
-effect_allocates m (notice worked x) = true
-effect_allocates m (notice moved x) = true
-effect_allocates m (notice idle x) = false
-effect_allocates m (notice unsubscribed x) = false
-effect_allocates m (notice forgotten x) = false
-effect_allocates m (notice full x) = false
+-- the attempt with its look, at a prefix of the log
+abbrev pub attempt_with_look : OneStep → PlainOpenAttempt → PlainAttempt
+attempt_with_look m a =
+    record { submission = a.submission; look = look_at (std.take a.looked_version (m.logs a.key)) a.submission }
+
+-- whether the attempt's work allocates
+abbrev pub attempt_work_allocates : OneStep → PlainOpenAttempt → Bool
+attempt_work_allocates m a = work_allocates (attempt_with_look m a)
+
+-- whether a commit that finds a longer log allocates: for its new look, and for the work if the attempt has none
+abbrev pub new_look_allocates : OneStep → PlainOpenAttempt → Bool
+new_look_allocates m a = look_allocates (m.logs a.key) a.submission || (not a.is_worked && attempt_work_allocates m a)
+
+-- whether a step with this notice allocates, for the session's attempt before it; a begin copies its submission
+abbrev pub notice_allocates : OneStep → Option PlainOpenAttempt → Notice → Bool
+notice_allocates m o began = true
+notice_allocates m o worked = option_map_or (attempt_work_allocates m) o false
+notice_allocates m o moved = option_map_or (new_look_allocates m) o false
+notice_allocates m o idle = false
+notice_allocates m o unsubscribed = false
+notice_allocates m o forgotten = false
+notice_allocates m o full = false
+
+-- whether a step with this effect allocates, for the session's attempt before it; a duplicate, E4, E11, a create on an
+-- existing document and empty reads don't
+abbrev pub effect_allocates : OneStep → Option PlainOpenAttempt → Effect → Bool
+effect_allocates m o (event (machine.submission k s now) x) = decide_allocates (m.logs k) s
+effect_allocates m o (event (machine.fetch k) x) = read_has_document (fetch_result (m.logs k))
+effect_allocates m o (event (machine.snapshot k v) x) = option_map_or read_has_version (result_ok (snapshot_at (m.logs k) v)) false
+effect_allocates m o (event (machine.snapshot_at_time k t) x) = read_has_version (fetch_at_moment (m.logs k) t)
+effect_allocates m o (event (machine.subscribe k v) x) = is_ok (start_result m k v)
+effect_allocates m o (event (machine.take_from k from max) x) = is_nonempty (queue (m.logs k) from max)
+effect_allocates m o (notice a x) = notice_allocates m o a
 
 -- ---- runs
 
@@ -196,7 +215,7 @@ IsEffectOutcome (notice a y) answer events x = (answer ≡ notice_answer a) × (
 -- one step; if an allocation fails, it is no event and changes nothing
 abbrev pub PicksOne : OneStep → SessionStates → PlainSessionStep → PlainStepAnswer → List Event → SessionStates → Type 0
 PicksOne m w s out_of_memory events v =
-    (effect_allocates m (effect m s.session (w s.session) s.act) ≡ true) × (events ≡ []) × (v ≡ w)
+    (effect_allocates m (w s.session).attempt (effect m s.session (w s.session) s.act) ≡ true) × (events ≡ []) × (v ≡ w)
 PicksOne m w s answer events v =
     (x : SessionState) × IsEffectOutcome (effect m s.session (w s.session) s.act) answer events x × (v ≡ with_session w s.session x)
 

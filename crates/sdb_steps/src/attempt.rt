@@ -4,8 +4,9 @@ ghost use Rattle.sdb_oplog.specs.Decide.{refused};
 ghost use Rattle.sdb_oplog.specs.declared.codes.Code.TheVariants.{E10};
 ghost use Rattle.sdb_desk.specs.ReplyView.{plain_reply};
 ghost use Rattle.sdb_oplog.specs.Keys.{PlainKey, plain_key};
-ghost use Rattle.sdb_desk.specs.ShardView.{logs_of, queues_of};
+ghost use Rattle.sdb_desk.specs.ShardView.{logs_of, caches_of, queues_of};
 ghost use Rattle.sdb_desk.specs.Looks.{IsLook};
+ghost use Rattle.sdb_desk.specs.Machine.{work_allocates};
 ghost use Rattle.sdb_desk.specs.View.{plain_look};
 ghost use Rattle.sdb_steps.specs.LookInvariant.{attempt_in, HasLookAt};
 ghost use Rattle.sdb_steps.specs.Picks.{open_attempt, is_deciding};
@@ -53,6 +54,7 @@ impl OpenAttempt {
             (plain_step_answer result.0)
             (one_step_of_shard shard.new) (option_map plain_open_attempt result.1) }
         ensures queues_unchanged { queues_of shard.new ≡ queues_of shard.old }
+        ensures caches_unchanged { caches_of shard.new ≡ caches_of shard.old }
     {
         if self.tries == MAX_TRIES {
             return self.commit_now(shard, now);
@@ -69,12 +71,14 @@ impl OpenAttempt {
     // the look.
     fn commit_unworked(self, shard: &mut Shard, now: Moment) -> CommitAnswer
         requires bound { self.tries < 8 }
+        requires memory { (is_worked self.phase ≡ false) × (work_allocates (attempt_in self.phase) ≡ true) }
         requires has_look { HasLookAt (logs_of shard.old) (Some self) }
         ensures has_look { HasLookAt (logs_of shard.new) result.1 }
         ensures commits { AttemptCommits (one_step_of_shard shard.old) (plain_open_attempt self) now
             (plain_step_answer result.0)
             (one_step_of_shard shard.new) (option_map plain_open_attempt result.1) }
         ensures queues_unchanged { queues_of shard.new ≡ queues_of shard.old }
+        ensures caches_unchanged { caches_of shard.new ≡ caches_of shard.old }
     {
         if shard.version(&self.key) != look_version(&self.phase) {
             return (StepAnswer::OutOfMemory, Some(self));
@@ -91,6 +95,7 @@ impl OpenAttempt {
             (plain_step_answer result.0)
             (one_step_of_shard shard.new) (option_map plain_open_attempt result.1) }
         ensures queues_unchanged { queues_of shard.new ≡ queues_of shard.old }
+        ensures caches_unchanged { caches_of shard.new ≡ caches_of shard.old }
     {
         let reply = shard.commit_now(&self.key, submission_of(&self.phase), now);
         if is_out_of_memory(&reply) {
@@ -102,8 +107,8 @@ impl OpenAttempt {
     // Computes the attempt's work, unless it has one. If an allocation fails, the attempt is
     // unchanged.
     pub(crate) fn work(self, alloc: Global) -> (StepAnswer, OpenAttempt)
-        ensures works { AttemptWorks (plain_open_attempt self) (plain_step_answer result.0)
-            (plain_open_attempt result.1) }
+        ensures works { AttemptWorks (work_allocates (attempt_in self.phase)) (plain_open_attempt self)
+            (plain_step_answer result.0) (plain_open_attempt result.1) }
         ensures attempt { attempt_in result.1.phase ≡ attempt_in self.phase }
         ensures key { plain_key result.1.key ≡ plain_key self.key }
     {
@@ -151,6 +156,7 @@ fn worked(alloc: Global, phase: Phase) -> Result<Work, Phase>
     ensures attempt { IfOk result (λ w. w ≡ attempt_in phase) }
     ensures kept { IfErr result (λ s. attempt_in s ≡ attempt_in phase) }
     ensures err { IfErr result (λ s. (k : PlainKey) (n : ℕ) → attempt_at k s n ≡ attempt_at k phase n) }
+    ensures memory { IfErr result (λ s. (is_worked s ≡ false) × (work_allocates (attempt_in s) ≡ true)) }
 {
     let made = match phase {
         Phase::Looked(attempt) => work(alloc, attempt),
@@ -165,7 +171,8 @@ fn worked(alloc: Global, phase: Phase) -> Result<Work, Phase>
 
 fn work_phase(alloc: Global, phase: Phase) -> (StepAnswer, Phase)
     ensures works { (k : PlainKey) (n : ℕ) →
-        AttemptWorks (attempt_at k phase n) (plain_step_answer result.0) (attempt_at k result.1 n) }
+        AttemptWorks (work_allocates (attempt_in phase)) (attempt_at k phase n) (plain_step_answer result.0)
+        (attempt_at k result.1 n) }
     ensures attempt { attempt_in result.1 ≡ attempt_in phase }
 {
     if is_worked(&phase) {
@@ -199,6 +206,7 @@ fn commit_work(
         })
         now (plain_step_answer result.0) (one_step_of_shard shard.new) (option_map plain_open_attempt result.1) }
     ensures queues_unchanged { queues_of shard.new ≡ queues_of shard.old }
+    ensures caches_unchanged { caches_of shard.new ≡ caches_of shard.old }
 {
     let mut work = work;
     match shard.commit(&key, &mut work, now) {

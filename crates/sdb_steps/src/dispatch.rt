@@ -1,7 +1,8 @@
 //! Dispatch of a step to its session and the documents.
 ghost use Rattle.std.specs.Prelude.{◌≡◌, ℕ, None, IfOk, OnErr, option_map, string_bytes};
 ghost use Rattle.sdb_oplog.specs.Keys.{plain_key};
-ghost use Rattle.sdb_desk.specs.ShardView.{logs_of, queues_of};
+ghost use Rattle.sdb_desk.specs.ShardView.{logs_of, caches_of, queues_of};
+ghost use Rattle.sdb_steps.specs.Caches.{CachesAfterAct};
 ghost use Rattle.sdb_steps.specs.LookInvariant.{HasLookAt};
 ghost use Rattle.sdb_steps.specs.Picks as plain;
 ghost use Rattle.sdb_steps.specs.Dispatch.{DispatchesAct, AttemptBegins};
@@ -34,6 +35,8 @@ pub(crate) fn dispatch(
     ensures other_queues_unchanged { OtherQueuesUnchanged (plain_session_step step.now).session (queues_of shard.old)
         (queue_slots_of session.old)
         (queues_of shard.new) (queue_slots_of session.new) }
+    ensures caches { CachesAfterAct (logs_of shard.old) (plain_session_step step.now).act (caches_of shard.old)
+        (caches_of shard.new) }
 {
     match step {
         Step::Begin {
@@ -130,6 +133,7 @@ fn fetch(shard: &mut Shard, key: &Key) -> StepAnswer
         (plain.fetch (plain_key key.now)) (plain_step_answer result) (one_step_of_shard shard.new) x }
     ensures logs_unchanged { logs_of shard.new ≡ logs_of shard.old }
     ensures queues_unchanged { queues_of shard.new ≡ queues_of shard.old }
+    ensures caches_unchanged { caches_of shard.new ≡ caches_of shard.old }
 {
     match shard.fetch(key) {
         Ok(fetched) => StepAnswer::Fetched(fetched),
@@ -143,6 +147,8 @@ fn snapshot(shard: &mut Shard, key: &Key, version: Option<u64>) -> StepAnswer
         (plain.snapshot (plain_key key.now) version) (plain_step_answer result) (one_step_of_shard shard.new) x }
     ensures logs_unchanged { logs_of shard.new ≡ logs_of shard.old }
     ensures queues_unchanged { queues_of shard.new ≡ queues_of shard.old }
+    ensures caches { CachesAfterAct (logs_of shard.old) (plain.snapshot (plain_key key.now) version)
+        (caches_of shard.old) (caches_of shard.new) }
 {
     match shard.snapshot_at(key, version) {
         Ok(fetched) => StepAnswer::SnapshotFetched(Ok(fetched)),
@@ -156,6 +162,8 @@ fn snapshot_at_time(shard: &mut Shard, key: &Key, moment: Option<Moment>) -> Ste
         (plain.snapshot_at_time (plain_key key.now) moment) (plain_step_answer result) (one_step_of_shard shard.new) x }
     ensures logs_unchanged { logs_of shard.new ≡ logs_of shard.old }
     ensures queues_unchanged { queues_of shard.new ≡ queues_of shard.old }
+    ensures caches { CachesAfterAct (logs_of shard.old) (plain.snapshot_at_time (plain_key key.now) moment)
+        (caches_of shard.old) (caches_of shard.new) }
 {
     match shard.snapshot_at_time(key, moment) {
         Ok(fetched) => StepAnswer::MomentFetched(fetched),

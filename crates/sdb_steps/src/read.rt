@@ -1,13 +1,12 @@
 //! The parser of step lines.
 ghost use Rattle.std.specs.Prelude.{◌≡◌, Ok, IfOk, IfErr, option_map};
-ghost use Rattle.sdb_json.specs.JsonTree.{view as tree_view};
 ghost use Rattle.sdb_oplog.specs.Refusal.{IsRefusalOrOutOfMemory};
 ghost use Rattle.sdb_steps.specs.Lines.{session_of, begin_step_of, now_of, commit_step_of, fetch_step_of, snapshot_step_of, snapshot_at_time_step_of, subscribe_step_of, take_step_of, unsubscribe_step_of, forget_step_of, act_of, step_of, read_step};
 ghost use Rattle.sdb_steps.specs.View.{plain_session_step};
 
 use crate::session_number::SessionNumber;
 use crate::step::Step;
-use sdb_json::{JsonData, JsonTree, Scratch};
+use sdb_json::{JsonData, Scratch};
 use sdb_oplog::{Code, Moment};
 use sdb_wire::{
     count_field, moment_of, optional_count, optional_moment, parse_tree, read_content, read_key,
@@ -32,9 +31,9 @@ pub fn read_step(alloc: Global, text: &str) -> Result<Step, Code>
     }
 }
 
-fn step_of(alloc: Global, value: &JsonTree<'_>) -> Result<Step, Code>
-    ensures ok { IfOk result (λ s. step_of (tree_view value.now) ≡ Ok (plain_session_step s)) }
-    ensures err { IfErr result (λ code. IsRefusalOrOutOfMemory (step_of (tree_view value.now)) code) }
+fn step_of<D: JsonData>(alloc: Global, value: &D) -> Result<Step, Code>
+    ensures ok { IfOk result (λ s. step_of (D.json value.now) ≡ Ok (plain_session_step s)) }
+    ensures err { IfErr result (λ code. IsRefusalOrOutOfMemory (step_of (D.json value.now)) code) }
 {
     match session_of(value) {
         Some(session) => act_of(alloc, session, value),
@@ -42,17 +41,17 @@ fn step_of(alloc: Global, value: &JsonTree<'_>) -> Result<Step, Code>
     }
 }
 
-fn session_of(value: &JsonTree<'_>) -> Option<SessionNumber>
-    ensures { option_map (λ n. n.number) result ≡ session_of (tree_view value.now) }
+fn session_of<D: JsonData>(value: &D) -> Option<SessionNumber>
+    ensures { option_map (λ n. n.number) result ≡ session_of (D.json value.now) }
 {
     SessionNumber::new(count_field(value, "s")?)
 }
 
-fn act_of(alloc: Global, session: SessionNumber, value: &JsonTree<'_>) -> Result<Step, Code>
-    ensures ok { IfOk result (λ s. act_of session.number (tree_view value.now) ≡ Ok (plain_session_step s)) }
-    ensures err { IfErr result (λ code. IsRefusalOrOutOfMemory (act_of session.number (tree_view value.now)) code) }
+fn act_of<D: JsonData>(alloc: Global, session: SessionNumber, value: &D) -> Result<Step, Code>
+    ensures ok { IfOk result (λ s. act_of session.number (D.json value.now) ≡ Ok (plain_session_step s)) }
+    ensures err { IfErr result (λ code. IsRefusalOrOutOfMemory (act_of session.number (D.json value.now)) code) }
 {
-    match value.get("do").and_then(JsonTree::as_str) {
+    match value.get("do").and_then(D::as_str) {
         Some("begin") => begin_step_of(alloc, session, value),
         Some("work") => Ok(Step::Work { session }),
         Some("commit") => commit_step_of(session, value),
@@ -67,10 +66,14 @@ fn act_of(alloc: Global, session: SessionNumber, value: &JsonTree<'_>) -> Result
     }
 }
 
-fn begin_step_of(alloc: Global, session: SessionNumber, value: &JsonTree<'_>) -> Result<Step, Code>
-    ensures ok { IfOk result (λ s. begin_step_of session.number (tree_view value.now) ≡ Ok (plain_session_step s)) }
+fn begin_step_of<D: JsonData>(
+    alloc: Global,
+    session: SessionNumber,
+    value: &D,
+) -> Result<Step, Code>
+    ensures ok { IfOk result (λ s. begin_step_of session.number (D.json value.now) ≡ Ok (plain_session_step s)) }
     ensures err { IfErr result (λ code. IsRefusalOrOutOfMemory (begin_step_of session.number
-        (tree_view value.now)) code) }
+        (D.json value.now)) code) }
 {
     let key = read_key(alloc, value)?;
     let Ok(version) = optional_count(value, "v") else {
@@ -92,8 +95,8 @@ fn begin_step_of(alloc: Global, session: SessionNumber, value: &JsonTree<'_>) ->
 }
 
 // Returns the moment of a commit, or the first moment if the member is absent.
-fn now_of(value: &JsonTree<'_>) -> Result<Moment, Code>
-    ensures { result ≡ now_of (tree_view value.now) }
+fn now_of<D: JsonData>(value: &D) -> Result<Moment, Code>
+    ensures { result ≡ now_of (D.json value.now) }
 {
     match value.get("ms") {
         None => Ok(Moment::zero()),
@@ -104,10 +107,10 @@ fn now_of(value: &JsonTree<'_>) -> Result<Moment, Code>
     }
 }
 
-fn commit_step_of(session: SessionNumber, value: &JsonTree<'_>) -> Result<Step, Code>
-    ensures ok { IfOk result (λ s. commit_step_of session.number (tree_view value.now) ≡ Ok (plain_session_step s)) }
+fn commit_step_of<D: JsonData>(session: SessionNumber, value: &D) -> Result<Step, Code>
+    ensures ok { IfOk result (λ s. commit_step_of session.number (D.json value.now) ≡ Ok (plain_session_step s)) }
     ensures err { IfErr result (λ code. IsRefusalOrOutOfMemory (commit_step_of session.number
-        (tree_view value.now)) code) }
+        (D.json value.now)) code) }
 {
     match now_of(value) {
         Ok(now) => Ok(Step::Commit { session, now }),
@@ -115,23 +118,27 @@ fn commit_step_of(session: SessionNumber, value: &JsonTree<'_>) -> Result<Step, 
     }
 }
 
-fn fetch_step_of(alloc: Global, session: SessionNumber, value: &JsonTree<'_>) -> Result<Step, Code>
-    ensures ok { IfOk result (λ s. fetch_step_of session.number (tree_view value.now) ≡ Ok (plain_session_step s)) }
+fn fetch_step_of<D: JsonData>(
+    alloc: Global,
+    session: SessionNumber,
+    value: &D,
+) -> Result<Step, Code>
+    ensures ok { IfOk result (λ s. fetch_step_of session.number (D.json value.now) ≡ Ok (plain_session_step s)) }
     ensures err { IfErr result (λ code. IsRefusalOrOutOfMemory (fetch_step_of session.number
-        (tree_view value.now)) code) }
+        (D.json value.now)) code) }
 {
     let key = read_key(alloc, value)?;
     Ok(Step::Fetch { session, key })
 }
 
-fn snapshot_step_of(
+fn snapshot_step_of<D: JsonData>(
     alloc: Global,
     session: SessionNumber,
-    value: &JsonTree<'_>,
+    value: &D,
 ) -> Result<Step, Code>
-    ensures ok { IfOk result (λ s. snapshot_step_of session.number (tree_view value.now) ≡ Ok (plain_session_step s)) }
+    ensures ok { IfOk result (λ s. snapshot_step_of session.number (D.json value.now) ≡ Ok (plain_session_step s)) }
     ensures err { IfErr result (λ code. IsRefusalOrOutOfMemory (snapshot_step_of session.number
-        (tree_view value.now)) code) }
+        (D.json value.now)) code) }
 {
     let key = read_key(alloc, value)?;
     match optional_count(value, "v") {
@@ -144,15 +151,15 @@ fn snapshot_step_of(
     }
 }
 
-fn snapshot_at_time_step_of(
+fn snapshot_at_time_step_of<D: JsonData>(
     alloc: Global,
     session: SessionNumber,
-    value: &JsonTree<'_>,
+    value: &D,
 ) -> Result<Step, Code>
-    ensures ok { IfOk result (λ s. snapshot_at_time_step_of session.number (tree_view value.now)
+    ensures ok { IfOk result (λ s. snapshot_at_time_step_of session.number (D.json value.now)
         ≡ Ok (plain_session_step s)) }
     ensures err { IfErr result (λ code. IsRefusalOrOutOfMemory (snapshot_at_time_step_of session.number
-        (tree_view value.now)) code) }
+        (D.json value.now)) code) }
 {
     let key = read_key(alloc, value)?;
     match optional_moment(value, "ts") {
@@ -165,14 +172,14 @@ fn snapshot_at_time_step_of(
     }
 }
 
-fn subscribe_step_of(
+fn subscribe_step_of<D: JsonData>(
     alloc: Global,
     session: SessionNumber,
-    value: &JsonTree<'_>,
+    value: &D,
 ) -> Result<Step, Code>
-    ensures ok { IfOk result (λ s. subscribe_step_of session.number (tree_view value.now) ≡ Ok (plain_session_step s)) }
+    ensures ok { IfOk result (λ s. subscribe_step_of session.number (D.json value.now) ≡ Ok (plain_session_step s)) }
     ensures err { IfErr result (λ code. IsRefusalOrOutOfMemory (subscribe_step_of session.number
-        (tree_view value.now)) code) }
+        (D.json value.now)) code) }
 {
     let key = read_key(alloc, value)?;
     match optional_count(value, "v") {
@@ -185,10 +192,10 @@ fn subscribe_step_of(
     }
 }
 
-fn take_step_of(alloc: Global, session: SessionNumber, value: &JsonTree<'_>) -> Result<Step, Code>
-    ensures ok { IfOk result (λ s. take_step_of session.number (tree_view value.now) ≡ Ok (plain_session_step s)) }
+fn take_step_of<D: JsonData>(alloc: Global, session: SessionNumber, value: &D) -> Result<Step, Code>
+    ensures ok { IfOk result (λ s. take_step_of session.number (D.json value.now) ≡ Ok (plain_session_step s)) }
     ensures err { IfErr result (λ code. IsRefusalOrOutOfMemory (take_step_of session.number
-        (tree_view value.now)) code) }
+        (D.json value.now)) code) }
 {
     let key = read_key(alloc, value)?;
     match count_field(value, "max") {
@@ -197,24 +204,28 @@ fn take_step_of(alloc: Global, session: SessionNumber, value: &JsonTree<'_>) -> 
     }
 }
 
-fn unsubscribe_step_of(
+fn unsubscribe_step_of<D: JsonData>(
     alloc: Global,
     session: SessionNumber,
-    value: &JsonTree<'_>,
+    value: &D,
 ) -> Result<Step, Code>
-    ensures ok { IfOk result (λ s. unsubscribe_step_of session.number (tree_view value.now)
+    ensures ok { IfOk result (λ s. unsubscribe_step_of session.number (D.json value.now)
         ≡ Ok (plain_session_step s)) }
     ensures err { IfErr result (λ code. IsRefusalOrOutOfMemory (unsubscribe_step_of session.number
-        (tree_view value.now)) code) }
+        (D.json value.now)) code) }
 {
     let key = read_key(alloc, value)?;
     Ok(Step::Unsubscribe { session, key })
 }
 
-fn forget_step_of(alloc: Global, session: SessionNumber, value: &JsonTree<'_>) -> Result<Step, Code>
-    ensures ok { IfOk result (λ s. forget_step_of session.number (tree_view value.now) ≡ Ok (plain_session_step s)) }
+fn forget_step_of<D: JsonData>(
+    alloc: Global,
+    session: SessionNumber,
+    value: &D,
+) -> Result<Step, Code>
+    ensures ok { IfOk result (λ s. forget_step_of session.number (D.json value.now) ≡ Ok (plain_session_step s)) }
     ensures err { IfErr result (λ code. IsRefusalOrOutOfMemory (forget_step_of session.number
-        (tree_view value.now)) code) }
+        (D.json value.now)) code) }
 {
     let key = read_key(alloc, value)?;
     Ok(Step::Forget { session, key })

@@ -7,7 +7,8 @@ ghost use Rattle.sdb_oplog.specs.Decide.{IsMade};
 ghost use Rattle.sdb_oplog.specs.Keys.{PlainKey};
 ghost use Rattle.sdb_oplog.specs.Snap.{are_identifiers_new};
 ghost use Rattle.sdb_steps.specs.TakeContinuation.{TakesContinue};
-ghost use Rattle.sdb_steps.specs.WorldView.{one_step_of_world, sessions_of};
+ghost use Rattle.sdb_steps.specs.WorldView.{one_step_of_world, sessions_of, caches_of_world};
+ghost use Rattle.sdb_desk.specs.ShardView.{AreCachesOf};
 ghost use Rattle.sdb_steps.specs.Lines.{reading_step, is_step, line_of, step_refusal_text};
 ghost use Rattle.sdb_steps.specs.OneStep.{Event, Legal};
 ghost use Rattle.sdb_steps.specs.Picks.{Picks, replies_in};
@@ -50,8 +51,7 @@ pub struct Ran {
 /// assert!(rt; matches!(ran.answers.as_slice(), [StepAnswer::Idle]));
 /// ```
 pub fn run_steps(alloc: Global, steps: &[Step]) -> Result<Ran, AllocError>
-    // Replies and logs are those of the reference machine, which executes each submission
-    // atomically at its deciding commit.
+    // Replies and logs are those of the reference machine: a deciding commit is one step.
     ensures headline { IfOk result (λ ran. (events : List Event)
         × Picks (map plain_session_step steps.now) (map plain_step_answer ran.answers.items) events
         (sessions_of ran.world)
@@ -62,6 +62,8 @@ pub fn run_steps(alloc: Global, steps: &[Step]) -> Result<Ran, AllocError>
         (one_step_of_world ran.world) (sessions_of ran.world)) }
     // Each entry of each log is the one that its submission stores on the entries before it.
     ensures made { IfOk result (λ ran. (k : PlainKey) → IsMade ((one_step_of_world ran.world).logs k)) }
+    // Each cached snapshot is the document at its version.
+    ensures cached { IfOk result (λ ran. AreCachesOf (one_step_of_world ran.world).logs (caches_of_world ran.world)) }
     // No two entries of a log have the same source and seq.
     ensures once { IfOk result (λ ran. (k : PlainKey)
         → are_identifiers_new [] ((one_step_of_world ran.world).logs k) ≡ true) }
@@ -73,8 +75,7 @@ pub fn run_steps(alloc: Global, steps: &[Step]) -> Result<Ran, AllocError>
     ensures replays { IfOk result (λ ran.
         ReadsAreReplays (map plain_session_step steps.now) (map plain_step_answer ran.answers.items)
         (one_step_of_world ran.world).logs) }
-    // Each take returned the entries that follow those of the takes before it, from the queue's
-    // start on.
+    // Each take returned the entries that follow those of its queue's last take.
     ensures continued { IfOk result (λ ran.
         TakesContinue (map plain_session_step steps.now) (map plain_step_answer ran.answers.items)
         (one_step_of_world ran.world).logs) }

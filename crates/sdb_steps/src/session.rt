@@ -3,7 +3,7 @@ ghost use Rattle.std.specs.Prelude.{◌≡◌, ℕ, None};
 ghost use Rattle.sdb_oplog.specs.Keys.{Logs};
 ghost use Rattle.sdb_steps.specs.LookInvariant.{HasLookAt};
 ghost use Rattle.sdb_oplog.specs.Keys.{plain_key};
-ghost use Rattle.sdb_desk.specs.ShardView.{logs_of, queues_of};
+ghost use Rattle.sdb_desk.specs.ShardView.{logs_of, caches_of, queues_of};
 ghost use Rattle.sdb_desk.specs.Machine.{QueuesByKey, with_queues};
 ghost use Rattle.sdb_steps.specs.OneStep.{OneStep};
 ghost use Rattle.sdb_steps.specs.Picks.{work, commit, subscribe, take, unsubscribe};
@@ -34,7 +34,7 @@ impl Session {
 
     // Computes the attempt's work.
     pub(crate) fn work(&mut self, alloc: Global) -> StepAnswer
-        ensures dispatches { (i : ℕ) (m : OneStep) (q : QueuesByKey) →
+        ensures dispatches { (i : ℕ) (m : OneStep) (q : QueuesByKey) → HasLookAt m.logs self.old.attempt →
             DispatchesAct i m (session_state_of q self.old) work (plain_step_answer result) m
             (session_state_of q self.new) }
         ensures slots_unchanged { queue_slots_of self.new ≡ queue_slots_of self.old }
@@ -57,6 +57,7 @@ impl Session {
             (commit now) (plain_step_answer result) (one_step_of_shard shard.new) (session_state_of q self.new) }
         ensures slots_unchanged { queue_slots_of self.new ≡ queue_slots_of self.old }
         ensures queues_unchanged { queues_of shard.new ≡ queues_of shard.old }
+        ensures caches_unchanged { caches_of shard.new ≡ caches_of shard.old }
     {
         let Some(attempt) = self.attempt.take() else {
             return StepAnswer::Idle;
@@ -83,6 +84,7 @@ impl Session {
             (queues_of shard.new) (queue_slots_of self.new) }
         ensures attempt_unchanged { self.new.attempt ≡ self.old.attempt }
         ensures logs_unchanged { logs_of shard.new ≡ logs_of shard.old }
+        ensures caches_unchanged { caches_of shard.new ≡ caches_of shard.old }
     {
         if let Err(code) = shard.queue_start_or_full(key, version) {
             return refused_start(code);
@@ -114,6 +116,7 @@ impl Session {
             (queues_of shard.new) (queue_slots_of self.new) }
         ensures attempt_unchanged { self.new.attempt ≡ self.old.attempt }
         ensures logs_unchanged { logs_of shard.new ≡ logs_of shard.old }
+        ensures caches_unchanged { caches_of shard.new ≡ caches_of shard.old }
     {
         let Some(id) = queue_of(&self.slots, key) else {
             return StepAnswer::Idle;
@@ -136,6 +139,7 @@ impl Session {
             (queues_of shard.new) (queue_slots_of self.new) }
         ensures attempt_unchanged { self.new.attempt ≡ self.old.attempt }
         ensures logs_unchanged { logs_of shard.new ≡ logs_of shard.old }
+        ensures caches_unchanged { caches_of shard.new ≡ caches_of shard.old }
     {
         let Some(id) = queue_of(&self.slots, key) else {
             return StepAnswer::Idle;
@@ -152,6 +156,7 @@ fn close_queue(shard: &mut Shard, by: u64, key: &Key, queue: Option<SubId>)
         with_queues (queues_of shard.old) (plain_key key.now)
         (close_in by queue (queues_of shard.old (plain_key key.now))) }
     ensures logs_unchanged { logs_of shard.new ≡ logs_of shard.old }
+    ensures caches_unchanged { caches_of shard.new ≡ caches_of shard.old }
 {
     match queue {
         Some(id) => shard.unsubscribe(key, by, id),

@@ -1,8 +1,9 @@
 //! The state of a world.
-ghost use Rattle.std.specs.Prelude.{◌≡◌, ℕ, length, IfOk};
+ghost use Rattle.std.specs.Prelude.{◌≡◌, ℕ, [], length, IfOk};
 ghost use Rattle.sdb_oplog.specs.Keys.{no_logs};
-ghost use Rattle.sdb_desk.specs.ShardView.{logs_of, queues_of};
+ghost use Rattle.sdb_desk.specs.ShardView.{logs_of, caches_of, queues_of};
 ghost use Rattle.sdb_desk.specs.Machine.{no_queues};
+ghost use Rattle.sdb_steps.specs.Caches.{CachesAfterAct};
 ghost use Rattle.sdb_steps.specs.Picks.{empty_sessions};
 ghost use Rattle.sdb_steps.specs.Runs.{IsStep};
 ghost use Rattle.sdb_steps.specs.StateView.{one_step_of_shard, session_states_of, queue_slots_at};
@@ -36,6 +37,7 @@ impl WorldState {
         ensures logs { IfOk result (λ p. logs_of p.shard ≡ no_logs) }
         ensures queues { IfOk result (λ p. queues_of p.shard ≡ (λ k. no_queues)) }
         ensures sessions { IfOk result (λ p. session_states_of (queues_of p.shard) p.sessions.items ≡ empty_sessions) }
+        ensures caches { IfOk result (λ p. caches_of p.shard ≡ (λ k. [])) }
     {
         let mut sessions = Vec::new(alloc);
         for _ in 0..SESSION_LIMIT {
@@ -49,10 +51,12 @@ impl WorldState {
     }
 
     pub(crate) fn step(&mut self, step: &Step) -> StepAnswer
-        ensures { IsStep (one_step_of_shard self.old.shard) (session_states_of
+        ensures step { IsStep (one_step_of_shard self.old.shard) (session_states_of
             (queues_of self.old.shard) self.old.sessions.items)
             (plain_session_step step.now) (plain_step_answer result)
             (one_step_of_shard self.new.shard) (session_states_of (queues_of self.new.shard) self.new.sessions.items) }
+        ensures caches { CachesAfterAct (logs_of self.old.shard) (plain_session_step step.now).act
+            (caches_of self.old.shard) (caches_of self.new.shard) }
     {
         let number = step.session().number as usize;
         dispatch(

@@ -5,6 +5,7 @@ use sdb_dump::{CheckedDump, DumpFault, check_dump};
 use sdb_lines::{CountingReader, CountingWriter, RunFault};
 use std::alloc::{AllocError, Global};
 use std::io;
+use std::io::Read;
 
 // The mode in which the program runs.
 #[derive(Clone, Copy, PartialEq, Eq, Drop)]
@@ -53,31 +54,28 @@ where
     R: AllocGlobal + Input + Print + Eprint,
 {
     match parse_job(rt.alloc(), words) {
-        Ok(Job::Check) => Ok(check_input(rt)),
-        Ok(job) => Ok(run_input(rt, job == Job::Dump)),
+        Ok(job) => Ok(run_job(rt, job, rt.reader())),
         Err(error) => print_help_or_error(rt, &error),
     }
 }
 
-// Executes the steps of standard input, and writes the answers or the dump.
-fn run_input<R: AllocGlobal + Input + Print>(rt: &R, is_dumping: bool) -> u8 {
-    let mut reader = CountingReader::new(rt.reader());
+// Runs a job over the input, and returns the exit status.
+pub(crate) fn run_job<R, I>(rt: &R, job: Job, input: I) -> u8
+where
+    R: AllocGlobal + Print,
+    I: Read + Drop,
+{
+    let mut reader = CountingReader::new(input);
     let mut writer = CountingWriter::new(io::writer(rt));
-    let fault = if is_dumping {
-        sdb_steps::run_dump(rt.alloc(), &mut reader, &mut writer).err()
-    } else {
-        sdb_steps::run(rt.alloc(), &mut reader, &mut writer).err()
+    let fault = match job {
+        Job::Check => return print_check(rt, check_dump(rt.alloc(), &mut reader)),
+        Job::Dump => sdb_steps::run_dump(rt.alloc(), &mut reader, &mut writer).err(),
+        Job::Run => sdb_steps::run(rt.alloc(), &mut reader, &mut writer).err(),
     };
     match fault {
         Some(fault) => exit_status(rt, fault),
         None => STATUS_OK,
     }
-}
-
-// Checks whether standard input is a dump.
-fn check_input<R: AllocGlobal + Input + Print>(rt: &R) -> u8 {
-    let mut reader = CountingReader::new(rt.reader());
-    print_check(rt, check_dump(rt.alloc(), &mut reader))
 }
 
 // Prints the outcome of a check, and returns the exit status.

@@ -1,8 +1,11 @@
-//! Tests of command lines.
-use crate::command::{Job, parse_job};
+//! Tests of command lines, and of the output and the exit status of each job.
+use crate::command::{Job, parse_job, print_check, run_job};
 use sdb_cli::terminal::{TerminalBuffer, argument_list};
-use sdb_cli::{STATUS_OK, STATUS_USAGE, print_help_or_error};
+use sdb_cli::{STATUS_FAULT, STATUS_OK, STATUS_USAGE, print_help_or_error};
+use sdb_dump::DumpFault;
 use std::alloc::Global;
+use std::fmt::Display;
+use std::io;
 use std::test::Fail;
 
 // Returns the exit status of a command line that starts no run.
@@ -29,12 +32,23 @@ fn each_job_is_parsed(rt: HostRuntime) -> Result<(), Fail> {
     Ok(())
 }
 
+const HELP: &str =
+    r#"Run the steps of up to 64 sessions on JSON documents, one per line of standard input
+
+Usage: sdb_steps_main [OPTIONS]
+
+Options:
+      --dump   Write no answers, but a dump of all logs at the end
+      --check  Check that standard input is such a dump
+  -h, --help   Print help
+"#;
+
 #[test]
 fn help_is_printed(rt: HostRuntime) -> Result<(), Fail> {
     let words = argument_list(rt.alloc(), "sdb_steps_main --help")?;
     let terminal = TerminalBuffer::new(rt.alloc());
     assert!(rt; status_without_job(rt.alloc(), &terminal, words.as_slice()) == Some(STATUS_OK));
-    assert!(rt; !terminal.out.into_inner().is_empty());
+    assert!(rt; terminal.out.into_inner().as_str() == HELP);
     assert!(rt; terminal.err.into_inner().is_empty());
     Ok(())
 }
@@ -60,4 +74,122 @@ fn a_refused_command_line_is_one_line_on_standard_error(rt: HostRuntime) -> Resu
         );
     }
     Ok(())
+}
+
+// An input and an output on which each call fails.
+#[derive(Drop)]
+struct FailingStreams {
+    alloc: Global,
+}
+
+impl io::Read for FailingStreams {
+    fn read(&mut self, _buf: &mut [u8]) -> io::Result<usize> {
+        Err(io::Error::from(io::ErrorKind::BrokenPipe))
+    }
+}
+
+impl Print for FailingStreams {
+    fn print<D: Display + Drop>(&self, _value: D) -> io::Result<()> {
+        Err(io::Error::from(io::ErrorKind::BrokenPipe))
+    }
+
+    fn println<D: Display + Drop>(&self, _value: D) -> io::Result<()> {
+        Err(io::Error::from(io::ErrorKind::BrokenPipe))
+    }
+
+    fn write_all(&self, _bytes: &[u8]) -> io::Result<()> {
+        Err(io::Error::from(io::ErrorKind::BrokenPipe))
+    }
+}
+
+impl Alloc for FailingStreams {
+    type A = Global;
+
+    fn alloc(&self) -> Global {
+        self.alloc
+    }
+}
+
+const STEPS: &[u8] =
+    br#"{"s":0,"do":"begin","c":"b","d":"1","src":"w","seq":1,"create":{"type":"json0","data":5}}
+{"s":0,"do":"commit","ms":7}
+{"s":0,"do":"begin","c":"b","d":"1","src":"w","seq":2,"op":[{"p":[],"na":1}]}
+{"s":0,"do":"commit","ms":7}
+{"s":0,"do":"begin","c":"b","d":"2","src":"w","seq":3,"create":{"type":"json0"}}
+{"s":0,"do":"commit","ms":8}
+"#;
+
+const ANSWERS: &str = r#"{"do":"begin","s":0}
+{"do":"commit","missed":[],"s":0,"v":0}
+{"do":"begin","s":0}
+{"do":"commit","missed":[],"s":0,"v":1}
+{"do":"begin","s":0}
+{"do":"commit","missed":[],"s":0,"v":0}
+"#;
+
+const DUMP: &str = r#"{"dump":2}
+{"arrived":{"create":{"data":5,"type":"http://sharejs.org/types/JSONv0"},"v":null},"by":0,"c":"b","create":{"data":5,"type":"http://sharejs.org/types/JSONv0"},"d":"1","m":7,"seq":1,"src":"w","v":0,"via":"b"}
+{"arrived":{"op":[{"na":1,"p":[]}],"v":null},"by":0,"c":"b","d":"1","m":7,"op":[{"na":1,"p":[]}],"seq":2,"src":"w","v":1,"via":"b"}
+{"arrived":{"create":{"data":null,"type":"http://sharejs.org/types/JSONv0"},"v":null},"by":0,"c":"b","create":{"data":null,"type":"http://sharejs.org/types/JSONv0"},"d":"2","m":8,"seq":3,"src":"w","v":0,"via":"b"}
+{"entries":3}
+"#;
+
+// Returns whether the job on the input prints this text and ends with this status.
+fn prints(alloc: Global, job: Job, input: impl io::Read + Drop, text: &str, status: u8) -> bool {
+    let terminal = TerminalBuffer::new(alloc);
+    let ended = run_job(&terminal, job, input);
+    let out = terminal.out.into_inner();
+    let err = terminal.err.into_inner();
+    ended == status && out.as_str() == text && err.is_empty()
+}
+
+#[test]
+fn each_job_prints_its_output(rt: HostRuntime) {
+    let alloc = rt.alloc();
+    assert!(rt; prints(alloc, Job::Run, STEPS, ANSWERS, STATUS_OK));
+    assert!(rt; prints(alloc, Job::Dump, STEPS, DUMP, STATUS_OK));
+    let accepted = "accepted 2 documents, 3 entries\n";
+    assert!(rt; prints(alloc, Job::Check, DUMP.as_bytes(), accepted, STATUS_OK));
+}
+
+#[test]
+fn a_wrong_dump_is_refused_at_its_line(rt: HostRuntime) {
+    let alloc = rt.alloc();
+    for (dump, text) in [
+        ("", "wrong at line 1\n"),
+        ("{\"dump\":2}\n{\"entries\":1}\n", "wrong at line 2\n"),
+        ("{\"dump\":2}\n{\"entries\":0}", "wrong at line 2\n"),
+        ("{\"dump\":2}\n{\"entries\":0}\n\n", "wrong at line 3\n"),
+    ] {
+        assert!(rt;
+            prints(alloc, Job::Check, dump.as_bytes(), text, STATUS_FAULT),
+            "{text}"
+        );
+    }
+}
+
+#[test]
+fn a_failed_read_is_printed(rt: HostRuntime) {
+    let alloc = rt.alloc();
+    for job in [Job::Run, Job::Dump, Job::Check] {
+        let input = FailingStreams { alloc };
+        assert!(rt; prints(alloc, job, input, "fault: read\n", STATUS_FAULT));
+    }
+}
+
+#[test]
+fn a_failed_write_ends_with_status_1(rt: HostRuntime) {
+    let alloc = rt.alloc();
+    let output = FailingStreams { alloc };
+    assert!(rt; run_job(&output, Job::Run, STEPS) == STATUS_FAULT);
+    assert!(rt; run_job(&output, Job::Dump, STEPS) == STATUS_FAULT);
+    assert!(rt; run_job(&output, Job::Check, DUMP.as_bytes()) == STATUS_FAULT);
+    assert!(rt; run_job(&output, Job::Check, STEPS) == STATUS_FAULT);
+}
+
+#[test]
+fn a_check_without_memory_is_printed(rt: HostRuntime) {
+    let terminal = TerminalBuffer::new(rt.alloc());
+    assert!(rt; print_check(&terminal, Err(DumpFault::OutOfMemory)) == STATUS_FAULT);
+    assert!(rt; terminal.out.into_inner().as_str() == "fault: memory\n");
 }

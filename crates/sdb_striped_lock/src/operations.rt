@@ -85,6 +85,24 @@ impl<T: Grows> StripedLock<T> {
         self.locks[index].with(rt, &mut seats.seats[index], job)
     }
 
+    /// Compares what two callers have observed of the lock at an index: one value extends both.
+    /// Neither observes anything new. It doesn't wait.
+    pub fn compare(&self, first: &mut SeatSet<T>, second: &mut SeatSet<T>, index: usize)
+        requires index { index < 8 }
+        requires belongs { SeatSetBelongsTo first.old self.now × SeatSetBelongsTo second.old self.now }
+        ensures first { SeatSetBelongsTo first.new self.now }
+        ensures second { SeatSetBelongsTo second.new self.now }
+        ensures numbers_unchanged { (seat_set_number first.new ≡ seat_set_number first.old)
+            × (seat_set_number second.new ≡ seat_set_number second.old) }
+        ensures others_unchanged { ChangedOnlyAt index first.old first.new
+            × ChangedOnlyAt index second.old second.new }
+        ensures extended { (x y v : T) × SeatSetHasSeen first.old index x × SeatSetHasSeen first.new index x
+            × SeatSetHasSeen second.old index y × SeatSetHasSeen second.new index y
+            × T.extends v x × T.extends v y }
+    {
+        self.locks[index].compare(&mut first.seats[index], &mut second.seats[index]);
+    }
+
     /// Creates the seats of a new caller, with the next number, from the first seats. Each has
     /// observed what the first seat of its lock has, a value without a part of the new number.
     ///

@@ -1,11 +1,29 @@
 -- Chains of tries, one try at a time.
-use Rattle.std.proofs.Common.{◌≡◌, ◌≢◌, ℕ, suc, sym, subst, inl, inr}
+use Rattle.std.proofs.Common.{◌≡◌, ◌≢◌, ℕ, suc, true, Result, Ok, Err, IfOk, IfErr, OnErr, sym, ap, ◌∙◌, subst, inl, inr}
 use Rattle.sdb_oplog.specs.Plain.{PlainSubmission}
 use Rattle.sdb_oplog.specs.Decide.{PlainReply, refused}
 use Rattle.sdb_oplog.specs.declared.codes.Code.TheVariants.{E10}
-use Rattle.sdb_desk.specs.Machine.{PlainLook, PlainAttempt, decided, moved}
+use Rattle.sdb_desk.specs.Machine.{PlainLook, PlainAttempt, decided, moved, work_allocates}
+use Rattle.sdb_desk.specs.View.{plain_attempt}
+use Rattle.sdb_desk.specs.declared.work.Attempt.{Attempt}
 use Rattle.sdb_submit.specs.Calls.{commit, commit_now}
 use Rattle.sdb_submit.specs.SubmitLoop.{CallRelation, SubmitRetries}
+
+-- ---- the attempt, worked or not
+
+abbrev pub attempt_of_result : Result PlainAttempt Attempt → PlainAttempt
+attempt_of_result (Ok w) = w
+attempt_of_result (Err a) = plain_attempt a
+
+pub result_is : (r : Result PlainAttempt Attempt) (a : PlainAttempt) → IfOk r (λ w. w ≡ a) → IfErr r (λ t. plain_attempt t ≡ a) → attempt_of_result r ≡ a
+result_is (Ok w) a ok err = ok
+result_is (Err t) a ok err = err
+
+pub result_allocates : (r : Result PlainAttempt Attempt) (a : PlainAttempt) → IfErr r (λ t. plain_attempt t ≡ a) → OnErr r (work_allocates a ≡ true) → OnErr r (work_allocates (attempt_of_result r) ≡ true)
+result_allocates (Ok w) a err memory = tt
+result_allocates (Err t) a err memory = ap work_allocates err ∙ memory
+
+-- ---- tries
 
 module _ {P : Type 0} (acts : CallRelation P) (s : PlainSubmission) (now : ℕ) where
   -- the remaining tries lead to this reply
@@ -20,9 +38,12 @@ module _ {P : Type 0} (acts : CallRelation P) (s : PlainSubmission) (now : ℕ) 
   pub by_last : (n : ℕ) (l : PlainLook) (p q : P) (r : PlainReply) (x : PlainSubmission) → n ≡ 0 → x ≡ s → acts (commit_now x now) p r q → RetriesLeft n l p r q
   by_last n l p q r x e is h = by_none n l p q r e (subst (λ (y : PlainSubmission). acts (commit_now y now) p r q) is h)
 
-  pub by_unworked : (n k : ℕ) (l : PlainLook) (p q : P) (r : PlainReply) → n ≡ suc k → acts (commit_now s now) p r q → RetriesLeft n l p r q
+  pub by_unworked : (n k : ℕ) (a : PlainAttempt) (p q : P) (r : PlainReply) → n ≡ suc k → a.submission ≡ s → work_allocates a ≡ true → acts (commit_now a.submission now) p r q → RetriesLeft n a.look p r q
   unfolding SubmitRetries
-  by_unworked n k l p q r e h = subst (λ (m : ℕ). SubmitRetries acts s now m l p r q) (sym e) (inl h)
+  by_unworked n k a p q r e is wants h =
+      let done : (work_allocates (record { submission = s; look = a.look }) ≡ true) × acts (commit_now s now) p r q =
+      subst (λ (x : PlainSubmission). (work_allocates (record { submission = x; look = a.look }) ≡ true) × acts (commit_now x now) p r q) is (wants, h) in
+      subst (λ (m : ℕ). SubmitRetries acts s now m a.look p r q) (sym e) (inl done)
 
   pub by_decided : (n k : ℕ) (l : PlainLook) (a : PlainAttempt) (p q : P) (r : PlainReply) → n ≡ suc k → a ≡ record { submission = s; look = l } → acts (commit a now) p (decided r) q → r ≢ refused E10 → RetriesLeft n l p r q
   unfolding SubmitRetries

@@ -1,10 +1,10 @@
 -- Submissions, listings and first reads of a queue as chains of calls of a desk.
-use Rattle.std.specs.Prelude.{◌≡◌, ◌≢◌, ℕ, zero, suc, ◌+◌, ◌<◌, ◌≤◌, ◌⊎◌, List, [], ◌∷◌, ◌++◌, Option, Some, None, Result, Ok, Err}
+use Rattle.std.specs.Prelude.{◌≡◌, ◌≢◌, ℕ, true, zero, suc, ◌+◌, ◌<◌, ◌≤◌, ◌⊎◌, List, [], ◌∷◌, ◌++◌, Option, Some, None, Result, Ok, Err}
 use Rattle.sdb_oplog.specs.Plain.{PlainEntry, PlainSubmission}
 use Rattle.sdb_oplog.specs.declared.codes.Code.{Code}
 use Rattle.sdb_oplog.specs.Decide.{PlainReply, refused}
 use Rattle.sdb_oplog.specs.declared.codes.Code.TheVariants.{E4, E10}
-use Rattle.sdb_desk.specs.Machine.{PlainLook, decided, moved}
+use Rattle.sdb_desk.specs.Machine.{PlainLook, decided, moved, work_allocates}
 use Rattle.sdb_submit.specs.Calls.{PlainCall, look, commit, commit_now, current_version, ops_between, take_next, CallAnswer}
 
 -- how each call relates the state before it, its answer and the state after it
@@ -12,11 +12,11 @@ abbrev pub CallRelation : Type 0 → Type 1
 CallRelation P = (c : PlainCall) → P → CallAnswer c → P → Type 0
 
 -- n tries from this look: each computes the work and commits, and a try that finds a longer log continues with its new
--- look; with no try left, or if an allocation fails, `commit_now` decides
+-- look; with no try left, or if an allocation fails for the work or for the commit, `commit_now` decides
 unfoldable pub SubmitRetries : {P : Type 0} → CallRelation P → PlainSubmission → ℕ → ℕ → PlainLook → P → PlainReply → P → Type 0
 SubmitRetries acts s now zero l p r q = acts (commit_now s now) p r q
 SubmitRetries acts s now (suc n) l p r q =
-    acts (commit_now s now) p r q
+    ((work_allocates (record { submission = s; look = l }) ≡ true) × acts (commit_now s now) p r q)
     ⊎ ((acts (commit (record { submission = s; look = l }) now) p (decided r) q × (r ≢ refused E10))
     ⊎ (((o : _) × (acts (commit (record { submission = s; look = l }) now) p (decided (refused E10)) o
     × acts (commit_now s now) o r q))

@@ -32,6 +32,9 @@ pub trait Desk {
     // How a call at a key relates the pass before, the answer and the pass after.
     ghost step: { Self → PlainKey → (c : PlainCall) → Self.Pass → CallAnswer c → Self.Pass → Type 0 };
 
+    // How a call at a key relates the pass before and the pass after, by their snapshot caches.
+    ghost caches_step: { Self → PlainKey → PlainCall → Self.Pass → Self.Pass → Type 0 };
+
     // The attempt's look at a key is one that the pass has observed.
     ghost has_seen: { Self → PlainKey → PlainAttempt → Self.Pass → Type 0 };
 
@@ -52,7 +55,8 @@ pub trait Desk {
         ensures number_unchanged { pass_number self.now pass.new ≡ pass_number self.now pass.old }
         ensures seen { IfOk result (λ l. has_seen self.now (plain_key key.now)
             (record { submission = submission.now; look = plain_look l }) pass.new) }
-        ensures step { step self.now (plain_key key.now) (look submission.now) pass.old (look_view result) pass.new };
+        ensures step { step self.now (plain_key key.now) (look submission.now) pass.old (look_view result) pass.new }
+        ensures caches { caches_step self.now (plain_key key.now) (look submission.now) pass.old pass.new };
 
     /// Decides the work's submission at a moment if the log hasn't grown since its look. Otherwise
     /// returns a new look.
@@ -66,7 +70,8 @@ pub trait Desk {
         ensures seen { OnMoved (plain_outcome result) (λ l. has_seen self.now (plain_key key.now)
             (record { submission = work.old.submission; look = l }) pass.new) }
         ensures step { step self.now (plain_key key.now) (commit work.old now) pass.old
-            (plain_outcome result) pass.new };
+            (plain_outcome result) pass.new }
+        ensures caches { caches_step self.now (plain_key key.now) (commit work.old now) pass.old pass.new };
 
     /// Decides a submission at a moment.
     fn commit_now(
@@ -81,7 +86,8 @@ pub trait Desk {
         ensures accepted { accepts self.now pass.new }
         ensures number_unchanged { pass_number self.now pass.new ≡ pass_number self.now pass.old }
         ensures step { step self.now (plain_key key.now) (commit_now submission.now now) pass.old
-            (plain_reply result) pass.new };
+            (plain_reply result) pass.new }
+        ensures caches { caches_step self.now (plain_key key.now) (commit_now submission.now now) pass.old pass.new };
 
     /// Decides a work's submission at a moment, even if the log has grown since its look. An
     /// implementation should transform only against the newer entries; no clause states it.
@@ -91,14 +97,16 @@ pub trait Desk {
         ensures accepted { accepts self.now pass.new }
         ensures number_unchanged { pass_number self.now pass.new ≡ pass_number self.now pass.old }
         ensures step { step self.now (plain_key key.now) (commit_now work.submission now) pass.old
-            (plain_reply result) pass.new };
+            (plain_reply result) pass.new }
+        ensures caches { caches_step self.now (plain_key key.now) (commit_now work.submission now) pass.old pass.new };
 
     /// Returns the current version, 0 for a document without entries. It doesn't allocate.
     fn version(&self, pass: &mut Self::Pass, key: &Key) -> u64
         requires { accepts self.now pass.old }
         ensures accepted { accepts self.now pass.new }
         ensures number_unchanged { pass_number self.now pass.new ≡ pass_number self.now pass.old }
-        ensures step { step self.now (plain_key key.now) current_version pass.old result pass.new };
+        ensures step { step self.now (plain_key key.now) current_version pass.old result pass.new }
+        ensures caches { caches_step self.now (plain_key key.now) current_version pass.old pass.new };
 
     /// Returns the current version and document.
     ///
@@ -109,7 +117,8 @@ pub trait Desk {
         requires { accepts self.now pass.old }
         ensures accepted { accepts self.now pass.new }
         ensures number_unchanged { pass_number self.now pass.new ≡ pass_number self.now pass.old }
-        ensures step { step self.now (plain_key key.now) fetch pass.old (fetch_result_view result) pass.new };
+        ensures step { step self.now (plain_key key.now) fetch pass.old (fetch_result_view result) pass.new }
+        ensures caches { caches_step self.now (plain_key key.now) fetch pass.old pass.new };
 
     /// Returns the entries from a version on.
     ///
@@ -120,7 +129,8 @@ pub trait Desk {
         requires { accepts self.now pass.old }
         ensures accepted { accepts self.now pass.new }
         ensures number_unchanged { pass_number self.now pass.new ≡ pass_number self.now pass.old }
-        ensures step { step self.now (plain_key key.now) (ops_from version) pass.old (entries_view result) pass.new };
+        ensures step { step self.now (plain_key key.now) (ops_from version) pass.old (entries_view result) pass.new }
+        ensures caches { caches_step self.now (plain_key key.now) (ops_from version) pass.old pass.new };
 
     /// Returns the entries from version `from` up to, and without, version `to`; fewer if the log
     /// ends before.
@@ -139,7 +149,8 @@ pub trait Desk {
         ensures accepted { accepts self.now pass.new }
         ensures number_unchanged { pass_number self.now pass.new ≡ pass_number self.now pass.old }
         ensures step { step self.now (plain_key key.now) (ops_between from to) pass.old
-            (copied_entries_view result) pass.new };
+            (copied_entries_view result) pass.new }
+        ensures caches { caches_step self.now (plain_key key.now) (ops_between from to) pass.old pass.new };
 
     /// Returns the document at a version, or the current one if it is `None`, with its version.
     ///
@@ -156,7 +167,8 @@ pub trait Desk {
         ensures accepted { accepts self.now pass.new }
         ensures number_unchanged { pass_number self.now pass.new ≡ pass_number self.now pass.old }
         ensures step { step self.now (plain_key key.now) (snapshot version) pass.old
-            (fetch_result_view result) pass.new };
+            (fetch_result_view result) pass.new }
+        ensures caches { caches_step self.now (plain_key key.now) (snapshot version) pass.old pass.new };
 
     /// Returns the document at a moment, or the current one if it is `None`, with its version.
     ///
@@ -173,14 +185,16 @@ pub trait Desk {
         ensures accepted { accepts self.now pass.new }
         ensures number_unchanged { pass_number self.now pass.new ≡ pass_number self.now pass.old }
         ensures step { step self.now (plain_key key.now) (snapshot_at_time moment) pass.old
-            (fetch_result_view result) pass.new };
+            (fetch_result_view result) pass.new }
+        ensures caches { caches_step self.now (plain_key key.now) (snapshot_at_time moment) pass.old pass.new };
 
     /// Empties the document's snapshot cache. It doesn't allocate.
     fn forget(&self, pass: &mut Self::Pass, key: &Key)
         requires { accepts self.now pass.old }
         ensures accepted { accepts self.now pass.new }
         ensures number_unchanged { pass_number self.now pass.new ≡ pass_number self.now pass.old }
-        ensures step { step self.now (plain_key key.now) forget pass.old tt pass.new };
+        ensures step { step self.now (plain_key key.now) forget pass.old tt pass.new }
+        ensures caches { caches_step self.now (plain_key key.now) forget pass.old pass.new };
 
     /// Opens a queue of all entries from a version on, or from the current one if it is `None`, and
     /// returns the document at it. The queue belongs to the pass's number.
@@ -199,7 +213,8 @@ pub trait Desk {
         ensures accepted { accepts self.now pass.new }
         ensures number_unchanged { pass_number self.now pass.new ≡ pass_number self.now pass.old }
         ensures step { step self.now (plain_key key.now) (subscribe version) pass.old
-            (subscribe_result_view result) pass.new };
+            (subscribe_result_view result) pass.new }
+        ensures caches { caches_step self.now (plain_key key.now) (subscribe version) pass.old pass.new };
 
     /// Returns the next entries of a queue, at most `max`. Returns `None` if the key has no open
     /// queue with this number, or if it belongs to another pass number.
@@ -217,7 +232,8 @@ pub trait Desk {
         requires { accepts self.now pass.old }
         ensures accepted { accepts self.now pass.new }
         ensures number_unchanged { pass_number self.now pass.new ≡ pass_number self.now pass.old }
-        ensures step { step self.now (plain_key key.now) (take_next id max) pass.old (taken_view result) pass.new };
+        ensures step { step self.now (plain_key key.now) (take_next id max) pass.old (taken_view result) pass.new }
+        ensures caches { caches_step self.now (plain_key key.now) (take_next id max) pass.old pass.new };
 
     /// Closes a queue of the key. It has no effect if no open queue has this number, or if it
     /// belongs to another pass number. It doesn't allocate.
@@ -225,7 +241,8 @@ pub trait Desk {
         requires { accepts self.now pass.old }
         ensures accepted { accepts self.now pass.new }
         ensures number_unchanged { pass_number self.now pass.new ≡ pass_number self.now pass.old }
-        ensures step { step self.now (plain_key key.now) (unsubscribe id) pass.old tt pass.new };
+        ensures step { step self.now (plain_key key.now) (unsubscribe id) pass.old tt pass.new }
+        ensures caches { caches_step self.now (plain_key key.now) (unsubscribe id) pass.old pass.new };
 
     /// Returns the number of a pass, which each of its submissions has as `by`.
     fn by(&self, pass: &Self::Pass) -> u64

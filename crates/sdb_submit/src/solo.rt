@@ -1,9 +1,8 @@
 //! The desk of one caller that owns the documents.
-ghost use Rattle.std.specs.Prelude.{◌≡◌, ℕ, [], ⊤};
-ghost use Rattle.sdb_oplog.specs.Keys.{plain_key};
-ghost use Rattle.sdb_desk.specs.ShardView.{machine_of, logs_of, caches_of, with_cache};
+ghost use Rattle.std.specs.Prelude.{⊤};
+ghost use Rattle.sdb_desk.specs.ShardView.{machine_of, logs_of, caches_of};
 ghost use Rattle.sdb_desk.specs.Looks.{IsLook};
-ghost use Rattle.sdb_submit.specs.Calls.{MachineStep, forget};
+ghost use Rattle.sdb_submit.specs.Calls.{MachineStep, CachesAfterCall};
 
 use crate::desk::Desk;
 use sdb_desk::{FetchResult, Look, Outcome, Reply, Shard, SubscribeResult, Work};
@@ -23,6 +22,8 @@ impl Desk for Solo {
     ghost pass_number = { λ d p. 0 };
 
     ghost step = { λ d k c p a q. MachineStep 0 (machine_of p) k c a (machine_of q) };
+
+    ghost caches_step = { λ d k c p q. CachesAfterCall k (logs_of p) c (caches_of p) (caches_of q) };
 
     ghost has_seen = { λ d k a p. IsLook (logs_of p k) a };
 
@@ -93,12 +94,7 @@ impl Desk for Solo {
         pass.snapshot_at_time(key, moment)
     }
 
-    fn forget(&self, pass: &mut Shard, key: &Key)
-        ensures accepted { ⊤ }
-        ensures number_unchanged { ◌≡◌ {A = ℕ} 0 0 }
-        ensures step { MachineStep 0 (machine_of pass.old) (plain_key key.now) forget tt (machine_of pass.new) }
-        ensures caches { caches_of pass.new ≡ with_cache (caches_of pass.old) (plain_key key.now) [] }
-    {
+    fn forget(&self, pass: &mut Shard, key: &Key) {
         pass.forget(key)
     }
 

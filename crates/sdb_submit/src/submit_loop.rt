@@ -7,8 +7,8 @@ ghost use Rattle.sdb_desk.specs.ReplyView.{plain_reply};
 ghost use Rattle.sdb_submit.specs.SubmitLoop.{SubmitRelation};
 
 use crate::desk::{Desk, Gate};
-use crate::work_step::next_work;
-use sdb_desk::{Outcome, Reply};
+use crate::work_step::{resume_work, work};
+use sdb_desk::{Attempt, Outcome, Reply};
 use sdb_oplog::{Code, Key, Moment, Submission};
 use std::alloc::Global;
 
@@ -16,12 +16,12 @@ use std::alloc::Global;
 /// commit that decides. A try that finds a longer log continues from its new look, as does the last
 /// commit. Refusals and duplicates are decided at a commit too.
 ///
-/// If an allocation fails for a look, a work or a commit, `commit_now` decides at once. It replies
-/// E10 only if the decision itself fails to allocate, and nothing changes then.
+/// Only if an allocation fails for a look, a work or a commit, `commit_now` decides at once. It
+/// replies E10 only if the decision itself fails to allocate, and nothing changes then.
 ///
 /// ```
 /// let (mut shard, now) = (Shard::new(alloc), Moment::zero());
-/// let reply = submit(alloc, &Solo, &mut shard, &key, &submission, now, &NoGate);
+/// let reply = submit(alloc, &Solo, &mut shard, &key, submission, now, &NoGate);
 /// assert!(rt; matches!(reply, Reply::Stored { v: 0, .. }));
 /// ```
 pub fn submit<D: Desk, G: Gate>(
@@ -29,42 +29,40 @@ pub fn submit<D: Desk, G: Gate>(
     desk: &D,
     pass: &mut D::Pass,
     key: &Key,
-    submission: &Submission,
+    submission: Submission,
     now: Moment,
     gate: &G,
 ) -> Reply
     requires accepted { D.accepts desk.now pass.old }
-    requires by { submission.now.by ≡ D.pass_number desk.now pass.old }
+    requires by { submission.by ≡ D.pass_number desk.now pass.old }
     ensures accepted { D.accepts desk.now pass.new }
     ensures number_unchanged { D.pass_number desk.now pass.new ≡ D.pass_number desk.now pass.old }
     ensures chain { let k = plain_key key.now in
-        SubmitRelation (D.step desk.now k) submission.now now pass.old (plain_reply result) pass.new }
+        SubmitRelation (D.step desk.now k) submission now pass.old (plain_reply result) pass.new }
 {
-    let Ok(mut look) = desk.look(pass, key, submission) else {
-        return desk.commit_now(pass, key, submission, now);
+    let Ok(look) = desk.look(pass, key, &submission) else {
+        return desk.commit_now(pass, key, &submission, now);
     };
-    let mut last = None;
+    let mut made = work(alloc, Attempt { submission, look });
     for try_no in 1..=8 {
-        let Some(mut worked) = next_work(alloc, submission, last, look) else {
-            return desk.commit_now(pass, key, submission, now);
+        let mut worked = match made {
+            Ok(worked) => worked,
+            Err(attempt) => return desk.commit_now(pass, key, &attempt.submission, now),
         };
         gate.before_commit(try_no);
         match desk.commit(pass, key, &mut worked, now) {
             Outcome::Decided(reply) => {
                 if is_out_of_memory(&reply) {
-                    return desk.commit_now(pass, key, submission, now);
+                    return desk.commit_now(pass, key, worked.submission(), now);
                 }
                 return reply;
             }
-            Outcome::Moved(fresh) => {
-                look = fresh;
-                last = Some(worked);
-            }
+            Outcome::Moved(fresh) => made = resume_work(alloc, worked, fresh),
         }
     }
-    match next_work(alloc, submission, last, look) {
-        Some(worked) => desk.commit_last(pass, key, worked, now),
-        None => desk.commit_now(pass, key, submission, now),
+    match made {
+        Ok(worked) => desk.commit_last(pass, key, worked, now),
+        Err(attempt) => desk.commit_now(pass, key, &attempt.submission, now),
     }
 }
 

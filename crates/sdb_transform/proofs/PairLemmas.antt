@@ -1,8 +1,8 @@
 -- Operations of one component each.
-use Rattle.std.proofs.Common.{◌≡◌, List, [], ◌∷◌, Some, None, inl, inr, ap, ◌∙◌}
+use Rattle.std.proofs.Common.{◌≡◌, List, [], ◌∷◌, Option, Some, None, inl, inr, ap, ◌∙◌}
 use Rattle.std.proofs.lemmas.List.{append-nil}
 use Rattle.sdb_component.specs.Plain.{PlainComponent}
-use Rattle.sdb_transform.specs.ActModel.{IsTransformFault}
+use Rattle.sdb_transform.specs.ActModel.{IsTransformFault, IsPairFault}
 use Rattle.sdb_transform.specs.declared.side.Fault.{Fault}
 use Rattle.sdb_transform.specs.declared.side.Fault.TheVariants.{OutOfMemory, NotTransformed}
 use Rattle.sdb_transform.specs.declared.side.Side.TheVariants.{Left, Right}
@@ -11,6 +11,10 @@ use Rattle.sdb_transform.specs.CrossStack.{IsCrossFault}
 use Rattle.sdb_transform.specs.Transform.{transform}
 use Rattle.sdb_transform.proofs.CrossLemmas.{cross_left_empty, cross_right_empty, cross_pair, and_then_none}
 use Rattle.sdb_transform.proofs.WeightLemmas.{transform_is_weighted}
+
+pub any_fault : {A : Type 0} (f : Fault) (o : Option A) → IsPairFault f o → IsTransformFault f o
+any_fault NotTransformed o h = h
+any_fault OutOfMemory o h = tt
 
 module _ (l r : PlainComponent) where
   -- the crossing of the results if nothing follows

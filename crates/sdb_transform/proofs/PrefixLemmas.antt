@@ -9,7 +9,7 @@ use Rattle.sdb_value.specs.declared.path.Step.{Step}
 use Rattle.sdb_component.specs.Plain.{PlainComponent}
 use Rattle.sdb_transform.specs.declared.side.Side.{Side}
 use Rattle.sdb_transform.specs.Transform.{strip_prefix, transform_step, with_moved_step, transform, component_at}
-use Rattle.sdb_transform.specs.ActModel.{IsTransformFault}
+use Rattle.sdb_transform.specs.ActModel.{IsTransformFault, IsPairFault}
 use Rattle.sdb_transform.specs.declared.side.Fault.{Fault}
 use Rattle.sdb_transform.specs.declared.side.Fault.TheVariants.{NotTransformed, OutOfMemory}
 
@@ -57,9 +57,9 @@ set_there items front o s rest x f e = ap (λ n. plain_path (set items n x)) (pr
 pub below_is : (side : Side) (c o : PlainComponent) (s t : PlainStep) (rest : List PlainStep) (m : Option (Option PlainStep)) → strip_prefix o.path c.path ≡ Some (s ∷ rest) → t ≡ s → transform_step o.act t ≡ m → transform side c o ≡ option_map (with_moved_step c o rest) m
 below_is side c o s t rest m e same h = rw (e, ← same, h) refl
 
-pub none_below : (f : Fault) (side : Side) (c o : PlainComponent) (s t : PlainStep) (rest : List PlainStep) → strip_prefix o.path c.path ≡ Some (s ∷ rest) → t ≡ s → IsTransformFault f (transform_step o.act t) → IsTransformFault f (transform side c o)
-none_below NotTransformed side c o s t rest e same h = below_is side c o s t rest None e same h
-none_below OutOfMemory side c o s t rest e same h = tt
+pub none_below : (f : Fault) (side : Side) (c o : PlainComponent) (s t : PlainStep) (rest : List PlainStep) → strip_prefix o.path c.path ≡ Some (s ∷ rest) → t ≡ s → f ≡ NotTransformed → IsTransformFault f (transform_step o.act t) → IsPairFault f (transform side c o)
+none_below NotTransformed side c o s t rest e same is h = below_is side c o s t rest None e same h
+none_below OutOfMemory side c o s t rest e same is h = absurd (cc)
 
 pub stays_below : (side : Side) (c o : PlainComponent) (s t : PlainStep) (rest : List PlainStep) → strip_prefix o.path c.path ≡ Some (s ∷ rest) → t ≡ s → transform_step o.act t ≡ Some (Some t) → Some (c ∷ []) ≡ transform side c o
 stays_below side c o s t rest e same h =

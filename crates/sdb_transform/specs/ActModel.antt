@@ -1,5 +1,6 @@
 -- The views of the transforms' results.
-use Rattle.std.specs.Prelude.{◌≡◌, ℕ, min, List, [], ◌∷◌, Option, Some, None, Result, Ok, Err, Vec, ⊤}
+use Rattle.std.specs.Prelude.{◌≡◌, ℕ, min, List, [], ◌∷◌, true, Option, Some, None, Result, Ok, Err, Vec, ⊤}
+use Rattle.std.specs.Option.{is_some}
 use Rattle.std.specs.declared.alloc.Global.{Global}
 use Rattle.sdb_component.specs.Plain.{PlainAct, PlainComponent}
 use Rattle.sdb_component.specs.View.{plain_act}
@@ -29,15 +30,20 @@ abbrev pub IsTransformFault : {A : Type 0} → Fault → Option A → Type 0
 IsTransformFault NotTransformed o = o ≡ None
 IsTransformFault OutOfMemory o = ⊤
 
+-- no transform exists; or one exists, and an allocation failed
+abbrev pub IsPairFault : {A : Type 0} → Fault → Option A → Type 0
+IsPairFault NotTransformed o = o ≡ None
+IsPairFault OutOfMemory o = is_some o ≡ true
+
 -- the acts, or the fault if there are none
 abbrev pub MatchesActs : Result RemainingActs Fault → Option (List PlainAct) → Type 0
 MatchesActs (Ok remaining) o = o ≡ Some (remaining_acts remaining)
-MatchesActs (Err fault) o = IsTransformFault fault o
+MatchesActs (Err fault) o = IsPairFault fault o
 
 -- the components, or the fault if there are none
 abbrev pub MatchesComponents : Result (Vec Component Global) Fault → Option (List PlainComponent) → Type 0
 MatchesComponents (Ok v) o = o ≡ Some v.items
-MatchesComponents (Err fault) o = IsTransformFault fault o
+MatchesComponents (Err fault) o = IsPairFault fault o
 
 -- the step that replaces s
 abbrev pub step_after : PlainStep → StepChange → Option PlainStep

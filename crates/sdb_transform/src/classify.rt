@@ -3,7 +3,7 @@
 ghost use Rattle.std.specs.Prelude.{◌≡◌, Some, IfOk, IfErr};
 ghost use Rattle.sdb_component.specs.View.{plain_act};
 ghost use Rattle.sdb_value.specs.View.{plain_step};
-ghost use Rattle.sdb_transform.specs.ActModel.{IsTransformFault};
+ghost use Rattle.sdb_transform.specs.ActModel.{IsPairFault};
 ghost use Rattle.sdb_transform.specs.Classification.{IsKindOfComponent, IsKindOfStep, reposition_component, with_position, transformed_components};
 ghost use Rattle.sdb_transform.specs.Transform.{update_removed, transform_step, transform, strip_removed_path};
 
@@ -113,7 +113,7 @@ pub(crate) fn transform_against(
     side: Side,
 ) -> Result<Transformed, Fault>
     ensures ok { IfOk result (λ s. transform side component other.now ≡ Some (transformed_components s)) }
-    ensures err { IfErr result (λ f. IsTransformFault f (transform side component other.now)) }
+    ensures err { IfErr result (λ f. IsPairFault f (transform side component other.now)) }
 {
     match classify(&component, other, side) {
         TransformKind::Refused => Err(Fault::NotTransformed),

@@ -4,7 +4,7 @@ ghost use Rattle.sdb_value.specs.Value.{PlainStep};
 ghost use Rattle.sdb_value.specs.View.{plain_path};
 ghost use Rattle.sdb_component.specs.View.{plain_act};
 ghost use Rattle.sdb_component.specs.Weight.{component_weight, weight};
-ghost use Rattle.sdb_transform.specs.ActModel.{MatchesActs, MatchesComponents, IsTransformFault};
+ghost use Rattle.sdb_transform.specs.ActModel.{MatchesActs, MatchesComponents, IsPairFault};
 ghost use Rattle.sdb_transform.specs.Transform.{strip_prefix, transform_act, transform, component_at, transform_below};
 
 use crate::component_list::{one_component, two_components};
@@ -24,7 +24,8 @@ use std::alloc::Global;
 /// # Errors
 ///
 /// [`Fault::NotTransformed`] if a deletion would be cut inside a surrogate pair, or an index or
-/// offset would exceed 9007199254740991. [`Fault::OutOfMemory`] if an allocation fails.
+/// offset would exceed 9007199254740991. [`Fault::OutOfMemory`] if an allocation fails; there is
+/// then a transform.
 pub fn transform_one(
     alloc: Global,
     component: Component,
@@ -32,7 +33,7 @@ pub fn transform_one(
     side: Side,
 ) -> Result<Vec<Component>, Fault>
     ensures ok { IfOk result (λ v. transform side component other.now ≡ Some v.items) }
-    ensures err { IfErr result (λ f. IsTransformFault f (transform side component other.now)) }
+    ensures err { IfErr result (λ f. IsPairFault f (transform side component other.now)) }
     ensures weight { IfOk result (λ v. weight v.items ≤ component_weight component) }
 {
     transform_at_paths(alloc, component, other, side)

@@ -379,6 +379,12 @@ pub found_view : {B : Type 0} (r : Option B) (n : B → Json) (l : ChunkedVec Js
 found_view r n l i h =
     sym (option_map_twice value_of n r) ∙ item_taken (option_map n r) l i (option_map_twice value_model n r ∙ h)
 
+-- a borrow of an item of a shared list has the value of the item
+pub shared_view : {B : Type 0} (r : Option B) (n : B → Json) (l : ChunkedVec Json) (i : ℕ) → IfSome r (λ x. slice_get (vec_models value_model l) i ≡ Some (value_model (n x)))
+    → IfSome r (λ x. item_at i (list_value l) ≡ Some (value_of (n x)))
+shared_view None n l i h = tt
+shared_view (Some x) n l i h = sym (found_view (Some x) n l i (sym h))
+
 some_mapped : {B : Type 0} (r : Option B) (n : B → Json) → IfSome (option_map n r) (λ v. is_unique v ≡ true) → IfSome r (λ x. is_unique (n x) ≡ true)
 some_mapped None n h = tt
 some_mapped (Some x) n h = h

@@ -170,6 +170,13 @@ unique_looked k (d ∷ es) s h e =
     unique_either (is_eq (compare_bytes k d.0)) d.1 s (lookup (is_at (compare_bytes k)) es) (both_first d.1.1 (all_true (model_unique es)) h)
     (unique_looked k es s (both_second d.1.1 (all_true (model_unique es)) h)) e
 
+-- a borrow of a value of a shared object has the value of the key
+pub object_shared : {B : Type 0} (r : Option B) (n : B → Json) (m : SortedMap Json) (k : List ℕ)
+    → IfSome r (λ x. lookup (is_at (compare_bytes k)) (map_entry_models value_model m) ≡ Some (value_model (n x)))
+    → IfSome r (λ x. member_at k (object_value m) ≡ Some (value_of (n x)))
+object_shared None n m k h = tt
+object_shared (Some x) n m k h = sym (object_found (Some x) n m k (sym h))
+
 pub unique_found : {B : Type 0} (r : Option B) (n : B → Json) (m : SortedMap Json) (k : List ℕ) → option_map (λ x. value_model (n x)) r ≡ lookup (is_at (compare_bytes k)) (map_entry_models value_model m)
     → object_unique m ≡ true → IfSome r (λ x. is_unique (n x) ≡ true)
 unique_found None n m k e own = tt

@@ -9,7 +9,7 @@ use Rattle.std.specs.Map.{keys_of}
 use Rattle.std.specs.Option.{option_and_then}
 use Rattle.serde_json.specs.Data as raw
 use Rattle.serde_json.specs.Find.{as_array, as_bool, as_number, as_object, as_str}
-use Rattle.sdb_json.specs.JsonTree.{sorted_members}
+use Rattle.sdb_json.specs.TreeData.{sorted_members}
 use Rattle.sdb_sorted_map.specs.MapEntry.{key_value}
 use Rattle.sdb_sorted_map.specs.KeyOrder.{compare_bytes, IsAscending}
 use Rattle.sdb_sorted_map.specs.SearchModel.{entry_key_bytes}

@@ -1,6 +1,6 @@
 -- The values of the profile among the data that `serde_json` parses (RFC 8259): all numbers are integers from
 -- -9007199254740991 to 9007199254740991.
-use Rattle.std.specs.Prelude.{◌≡◌, ℕ, ◌<◌, nat_lt, ℤ, pos, negsuc, int_lt, if◌then◌else◌, Option, Some, None, option_map, option_and_then, ⊤}
+use Rattle.std.specs.Prelude.{◌≡◌, ℕ, ◌<◌, nat_lt, Bool, true, false, ℤ, pos, negsuc, int_lt, if◌then◌else◌, Option, Some, None, option_map, option_and_then, ⊤}
 use Rattle.serde_json.specs.Data as raw
 use Rattle.serde_json.specs.Find.{as_integer, as_number, as_u64, of_integer}
 use Rattle.sdb_value.specs.Value.{Value, depth, null, truth, whole, text, list, object, Items, no_items, item, Members, no_members, member}
@@ -45,11 +45,20 @@ abbrev pub FaultMeansNone : {A : Type 0} → Option A → ValueFault → Type 0
 FaultMeansNone o OutOfMemory = ⊤
 FaultMeansNone o _ = o ≡ None
 
+-- Reading a text, a list or an object allocates; a value that is refused at sight does not.
+abbrev pub reading_allocates : ℕ → raw.Data → Bool
+reading_allocates n raw.null = false
+reading_allocates n (raw.boolean b) = false
+reading_allocates n (raw.number m) = false
+reading_allocates n (raw.string s) = true
+reading_allocates n (raw.array ds) = nat_lt 0 n
+reading_allocates n (raw.object ms) = nat_lt 0 n
+
 -- the reason why d, of allowed depth n, is refused
 abbrev pub IsReadFault : ℕ → raw.Data → ValueFault → Type 0
 IsReadFault n d NumberOutOfRange = value_of_data d ≡ None
 IsReadFault n d TooDeep = n < raw.depth d
-IsReadFault n d OutOfMemory = ⊤
+IsReadFault n d OutOfMemory = reading_allocates n d ≡ true
 
 abbrev pub IsItemsReadFault : ℕ → raw.Items → ValueFault → Type 0
 IsItemsReadFault n ds NumberOutOfRange = items_of_data ds ≡ None

@@ -7,7 +7,7 @@ ghost use Rattle.sdb_value.specs.FromJson.{FaultMeansNone, IsReadFault, IsItemsR
 ghost use Rattle.sdb_value.specs.View.{value_of, items_value, object_value};
 ghost use Rattle.serde_json.specs.Find.{as_array, as_object};
 ghost use Rattle.serde_json.specs.View as raw;
-ghost use Rattle.sdb_json.specs.JsonTree.{sorted_members};
+ghost use Rattle.sdb_json.specs.TreeData.{sorted_members};
 ghost use Rattle.sdb_sorted_map.specs.MapEntry.{key_value};
 
 use crate::list_edits::push_item;
@@ -73,10 +73,10 @@ fn read_value<D: JsonData>(alloc: Global, value: &D, left: u64) -> Result<Json, 
         }
         return Ok(Json::from_items(alloc, read_items(alloc, items, left - 1)?)?);
     }
+    if left == 0 && value.is_object() {
+        return Err(ValueFault::TooDeep);
+    }
     if let Some(members) = value.members(alloc)? {
-        if left == 0 {
-            return Err(ValueFault::TooDeep);
-        }
         return Ok(Json::from_members(read_members(alloc, &members, left - 1)?));
     }
     read_leaf(alloc, value)
@@ -94,8 +94,8 @@ fn read_leaf<D: JsonData>(alloc: Global, value: &D) -> Result<Json, ValueFault>
     if let Some(text) = value.as_str() {
         return Ok(Json::Text(Rope::from_str(alloc, text)?));
     }
-    if let Some(number) = value.as_number() {
-        return match whole_of(number) {
+    if value.is_number() {
+        return match whole_of(value) {
             Some(n) => Ok(Json::Int(n)),
             None => Err(ValueFault::NumberOutOfRange),
         };

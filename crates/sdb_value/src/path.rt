@@ -1,5 +1,5 @@
 //! Paths in a value.
-ghost use Rattle.std.specs.Prelude.{◌≡◌, ◌∷◌, true, false, option_map, IfOk, IfSome, OnErr, MatchOption};
+ghost use Rattle.std.specs.Prelude.{◌≡◌, ◌∷◌, true, false, Some, option_map, IfOk, IfSome, OnErr, MatchOption};
 ghost use Rattle.sdb_value.specs.Change.{ReplacedAt, AbsentAt};
 ghost use Rattle.sdb_sorted_map.specs.SearchModel.{vec_keys};
 ghost use Rattle.sdb_value.specs.Uniqueness.{is_unique, entries_unique, list_unique, object_unique};
@@ -51,8 +51,10 @@ pub fn find<'v>(value: &'v Json, path: &[Step]) -> Option<&'v Json>
 /// change on the whole value.
 #[tactic(auto, using(crate::proofs::UniquenessLemmas::levels))]
 pub fn find_mut<'v>(value: &'v mut Json, path: &[Step]) -> Option<&'v mut Json>
-    ensures { is_unique value.old ≡ true
+    ensures unique { is_unique value.old ≡ true
         → option_map (λ v. value_of v.now) result ≡ value_at (value_of value.old) (plain_path path.now) }
+    // What is found in a shared value is its value at the path too.
+    ensures found { IfSome result (λ v. value_at (value_of value.old) (plain_path path.now) ≡ Some (value_of v.now)) }
 {
     let Some((first, rest)) = path.split_first() else {
         return Some(value);
@@ -98,6 +100,7 @@ fn item_mut(items: &mut List, number: u64) -> Option<&mut Json>
     ensures value { list_unique items.old ≡ true
         → option_map (λ v. value_of v.now) result ≡ item_at number (list_value items.old) }
     ensures unique { list_unique items.old ≡ true → IfSome result (λ v. is_unique v.now ≡ true) }
+    ensures found { IfSome result (λ v. item_at number (list_value items.old) ≡ Some (value_of v.now)) }
 {
     items.get_mut(number as usize)
 }
@@ -107,6 +110,7 @@ fn member_mut<'v>(members: &'v mut Members, name: &str) -> Option<&'v mut Json>
     ensures value { object_unique members.old ≡ true
         → option_map (λ v. value_of v.now) result ≡ member_at name.now (object_value members.old) }
     ensures unique { object_unique members.old ≡ true → IfSome result (λ v. is_unique v.now ≡ true) }
+    ensures found { IfSome result (λ v. member_at name.now (object_value members.old) ≡ Some (value_of v.now)) }
 {
     members.get_mut(name)
 }

@@ -1,9 +1,10 @@
 -- The views of the types.
 use Rattle.std.specs.Prelude.{◌≡◌, Option, Result, Ok, Err, option_map, string_bytes}
 use Rattle.std.specs.Option.{option_map_or}
+use Rattle.std.specs.declared.alloc.Global.{Global}
 use Rattle.serde_json.specs.Data.{Data}
-use Rattle.sdb_json.specs.JsonTree.{view as tree_view}
-use Rattle.sdb_json.specs.declared.tree.JsonTree.{JsonTree}
+use Rattle.sdb_json.specs.TreeData.{tree_data}
+use Rattle.json.specs.declared.value.Value.{Value}
 use Rattle.sdb_value.specs.View.{value_of}
 use Rattle.sdb_oplog.specs.Keys.{plain_key}
 use Rattle.sdb_oplog.specs.declared.codes.Code.{Code}
@@ -18,7 +19,7 @@ use Rattle.sdb_wire.specs.declared.message.Request.{Request}
 use Rattle.sdb_wire.specs.declared.message.Request.TheVariants.{Hello, Fetch, Subscribe, Unsubscribe, Submit, Snapshot, SnapshotAtTime}
 use Rattle.sdb_wire.specs.declared.message.Message.{Message}
 use Rattle.sdb_wire.specs.declared.message.Answer.{Answer}
-use Rattle.sdb_wire.specs.declared.message.Answer.TheVariants.{Init, HelloAck, Fetched, ListEnd, Subscribed, CaughtUp, Unsubscribed, OpMessage, OpText, Acknowledged, Failed}
+use Rattle.sdb_wire.specs.declared.message.Answer.TheVariants.{Init, HelloAck, Fetched, ListEnd, Subscribed, CaughtUp, Unsubscribed, OpMessage, Acknowledged, Failed}
 use Rattle.sdb_wire.specs.declared.message.Answer.TheVariants as answer
 
 abbrev pub plain_echo_value : EchoValue → PlainEchoValue
@@ -49,8 +50,8 @@ request_view (Ok r) = Ok (plain_request r)
 request_view (Err c) = Err c
 
 -- the echo of a message, which is empty if it isn't JSON
-abbrev pub echo_or_empty : Option JsonTree → PlainEcho
-echo_or_empty m = option_map_or (λ v. echo_members (tree_view v)) m empty_echo
+abbrev pub echo_or_empty : Option (Value Global) → PlainEcho
+echo_or_empty m = option_map_or (λ v. echo_members (tree_data v)) m empty_echo
 
 abbrev pub plain_message : Message → PlainMessage
 plain_message m = record { echo = echo_or_empty m.json; request = request_view m.request }
@@ -66,7 +67,6 @@ plain_answer (Unsubscribed k) = unsubscribed (plain_key k.now)
 plain_answer (answer.Snapshot n v d) = snapshot n v (option_map (λ j. value_of j.now) d)
 plain_answer (answer.SnapshotAtTime n v d) = snapshot_at_time n v (option_map (λ j. value_of j.now) d)
 plain_answer (OpMessage k e c) = op_message (plain_key k.now) (with_content e.now c.now)
-plain_answer (OpText t) = op_message t.now.0 t.now.1
 plain_answer (Acknowledged k src seq v) = acknowledged (plain_key k.now) src.now seq v
 plain_answer (Failed echo code) = failed (plain_echo echo.now) code
 

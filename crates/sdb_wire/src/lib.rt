@@ -3,11 +3,8 @@
 
 mod codes;
 mod entries;
-mod escape_free;
-mod fast_path;
 mod fields;
 mod message;
-mod op_text;
 mod read;
 mod write;
 
@@ -17,7 +14,6 @@ pub use fields::{count_field, moment_of, optional_count, optional_moment, requir
 pub use message::{
     Answer, BadMessage, Echo, EchoValue, MESSAGE_LIMIT, Message, NAME_LIMIT, Request,
 };
-pub use op_text::OpText;
 pub use read::{
     echo_of, empty_echo, parse_message, parse_tree, read_content, read_key, read_message,
 };

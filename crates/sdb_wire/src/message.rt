@@ -1,5 +1,4 @@
 //! Messages, their echo in errors, and answers.
-use crate::op_text::OpText;
 use sdb_json::JsonTree;
 use sdb_oplog::{Code, Content, Entry, Key, Moment};
 use sdb_value::Json;
@@ -144,10 +143,6 @@ pub enum Answer<'a> {
         key: &'a Key,
         entry: &'a Entry,
         content: &'a Content,
-    },
-    /// An operation message whose text is cached.
-    OpText {
-        text: &'a OpText,
     },
     /// The acknowledgement of a submission: its source, its seq and its version.
     Acknowledged {

@@ -1,6 +1,6 @@
 //! The parser of messages.
 ghost use Rattle.std.specs.Prelude.{◌≡◌, ◌⊎◌, Ok, IfOk, IfErr, option_map, codes};
-ghost use Rattle.sdb_json.specs.JsonTree.{view as tree_view};
+ghost use Rattle.sdb_json.specs.TreeData.{tree_data};
 ghost use Rattle.sdb_oplog.specs.Keys.{plain_key};
 ghost use Rattle.sdb_oplog.specs.Refusal.{IsRefusalOrOutOfMemory};
 ghost use Rattle.sdb_wire.specs.Wire.{key_of, hello_request_of, fetch_request_of, subscribe_request_of, unsubscribe_request_of, submit_request_of, snapshot_request_of, snapshot_at_time_request_of, request_of, content_of, is_delete, create_content, created_content, edit_content, wire, parse_message, parse_data, echo_of, echo_members, empty_echo};
@@ -13,7 +13,7 @@ use crate::fields::{
 };
 use crate::message::{BadMessage, Echo, MESSAGE_LIMIT, Message, Request, TYPE};
 use sdb_component::read_op;
-use sdb_json::{JsonData, JsonTree, Scratch};
+use sdb_json::{JsonData, JsonTree, Scratch, parse_json};
 use sdb_oplog::{Code, Content, Key};
 use sdb_value::from_value;
 use serde_json::Value;
@@ -91,12 +91,12 @@ pub fn parse_tree<'a>(
     text: &'a str,
     scratch: &'a mut Scratch,
 ) -> Result<Option<JsonTree<'a>>, AllocError>
-    ensures { IfOk result (λ v. option_map tree_view v ≡ parse_data text.now) }
+    ensures { IfOk result (λ v. option_map tree_data v ≡ parse_data text.now) }
 {
     if text.len() > MESSAGE_LIMIT {
         return Ok(None);
     }
-    JsonTree::from_str(alloc, text, scratch)
+    parse_json(alloc, text, scratch)
 }
 
 /// Returns the echo of a message, which is empty if it isn't JSON.

@@ -7,19 +7,19 @@ ghost use Rattle.serde_json.specs.Data.{Members};
 ghost use Rattle.sdb_value.specs.ToJson.{data_tokens, object_tail_tokens};
 ghost use Rattle.sdb_value.specs.View.{value_of};
 ghost use Rattle.sdb_oplog.specs.Keys.{plain_key};
-ghost use Rattle.sdb_oplog.specs.Plain.{edit};
 ghost use Rattle.sdb_wire.specs.Answers.{answer_text, answer_tokens, hello_data, document_data, version_data, key_data, op_message, with_content, acknowledged, failed, snapshot_data, create_data, content_members, entry_data, entry_members, op_tail, error_data, push_member};
-ghost use Rattle.sdb_wire.specs.FastPath.{AreEscapeFree};
 ghost use Rattle.sdb_wire.specs.View.{plain_answer, plain_echo, plain_echo_value};
 
 use crate::codes::{code_name, code_text};
-use crate::fast_path::{TEXT_LEN, are_escape_free, edit_message, edit_message_bytes, push_ack};
 use crate::message::{Answer, Echo, EchoValue, TYPE};
 use json::Writer;
 use sdb_component::{Op, write_op};
 use sdb_oplog::{Code, Content, Entry, Key, Kind};
 use sdb_value::{Json, write_value};
 use std::alloc::{AllocError, Global};
+
+// Initial capacity in bytes of an answer.
+const TEXT_LEN: usize = 256;
 
 /// Returns the text of an answer: compact JSON with members in byte order.
 ///
@@ -34,12 +34,6 @@ use std::alloc::{AllocError, Global};
 pub fn reply_text(alloc: Global, answer: &Answer<'_>) -> Result<String, AllocError>
     ensures { IfOk result (λ s. string_bytes s ≡ answer_text (plain_answer answer.now)) }
 {
-    if let Answer::OpText { text } = answer {
-        return String::from_str(alloc, text.as_str());
-    }
-    if let Some((key, entry, op)) = fast_edit(answer) {
-        return edit_message(alloc, key, entry, op);
-    }
     let mut out = Writer::new(Vec::with_capacity(alloc, TEXT_LEN)?);
     write_answer(answer, &mut out)?;
     Ok(text_of(out))
@@ -58,19 +52,6 @@ pub fn append_answer_text(
     ensures ok { OnOk result (out.new.items ≡ out.old.items ++ answer_text (plain_answer answer.now)) }
     ensures err { OnErr result (out.new.items ≡ out.old.items) }
 {
-    if let Answer::OpText { text } = answer {
-        return out.extend_from_slice(text.as_str().as_bytes());
-    }
-    if let Answer::Acknowledged {
-        key,
-        src,
-        seq,
-        version,
-    } = answer
-        && are_escape_free(key, src)
-    {
-        return push_ack(key, src, *seq, *version, out);
-    }
     let text = answer_bytes(alloc, answer)?;
     out.extend_from_slice(text.as_slice())
 }
@@ -80,32 +61,9 @@ pub fn append_answer_text(
 fn answer_bytes(alloc: Global, answer: &Answer<'_>) -> Result<Vec<u8>, AllocError>
     ensures { IfOk result (λ v. v.items ≡ answer_text (plain_answer answer.now)) }
 {
-    if let Some((key, entry, op)) = fast_edit(answer) {
-        return edit_message_bytes(alloc, key, entry, op);
-    }
     let mut writer = Writer::new(Vec::with_capacity(alloc, TEXT_LEN)?);
     write_answer(answer, &mut writer)?;
     Ok(bytes_of(writer))
-}
-
-// Returns the parts of an operation message of an edit whose names have no character to escape.
-fn fast_edit<'a>(answer: &'a Answer<'_>) -> Option<(&'a Key, &'a Entry, &'a Op)>
-    ensures answer { IfSome result (λ t. plain_answer answer.now
-        ≡ op_message (plain_key t.0.now) (with_content t.1.now (edit t.2.now))) }
-    ensures escape_free { IfSome result (λ t. AreEscapeFree (plain_key t.0.now) (t.1.now).arrived.src) }
-{
-    let Answer::OpMessage {
-        key,
-        entry,
-        content,
-    } = answer
-    else {
-        return None;
-    };
-    match content.kind() {
-        Kind::Edit(op) if are_escape_free(key, entry.arrived().src()) => Some((key, entry, op)),
-        _ => None,
-    }
 }
 
 // Returns the bytes written.
@@ -162,9 +120,6 @@ fn write_answer(answer: &Answer<'_>, out: &mut Writer) -> Result<(), AllocError>
             entry,
             content,
         } => write_op_message(key, entry, content, out),
-        Answer::OpText { text } => {
-            write_op_message(&text.key, &text.entry, text.entry.content(), out)
-        }
         Answer::Acknowledged {
             key,
             src,

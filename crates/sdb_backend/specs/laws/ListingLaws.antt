@@ -13,22 +13,12 @@ use Rattle.sdb_submit.specs.Calls.{PlainCall, CallAnswer, current_version, ops_b
 use Rattle.sdb_submit.specs.SubmitLoop.{CallRelation, PlainBatch, total_size, entries_of, ReadsBatches, ListsAll}
 use Rattle.sdb_submit.specs.laws.SubmitLaws.{drop_drop, length_of_not_empty, between_not_empty, operations_reached, operations_too_new}
 use Rattle.sdb_striped_lock.specs.laws.SeatLaws.{have_seen_unique}
-use Rattle.sdb_backend.specs.CallAnswers.{AnsweredAtExtension}
+use Rattle.sdb_backend.specs.CallAnswers.{AnsweredAtExtension, PassCalls, ListedAtExtension}
 use Rattle.sdb_backend.specs.HistoryOrder.{IsExtension, Extends, share_of}
 use Rattle.sdb_backend.specs.HistoryOrderLaws.{extends_refl, extends_trans}
 use Rattle.sdb_backend.specs.PassModel.{pass_number, PassHasSeen}
 use Rattle.sdb_backend.specs.declared.shard_value.Held.{Held}
 use Rattle.sdb_backend.specs.declared.pass.Pass.{Pass}
-
--- a listing is the machine's at one history that extends the observed one; the pass then observes an extension of it
--- with the same share
-abbrev pub ListedAtExtension : PlainKey → ℕ → Pass → Result (List PlainEntry) Code → Pass → Type 0
-ListedAtExtension k v p r q =
-    (x h new : Held) × PassHasSeen p k x × Extends (machine_of h.shard) (machine_of x.shard)
-    × (share_of (pass_number p) (machine_of x.shard) ≡ share_of (pass_number p) (machine_of h.shard))
-    × ReadOrOutOfMemory is_nonempty r (operations_from (logs_of h.shard k) v)
-    × PassHasSeen q k new × Extends (machine_of new.shard) (machine_of h.shard)
-    × (share_of (pass_number p) (machine_of h.shard) ≡ share_of (pass_number p) (machine_of new.shard))
 
 -- entries before a version are unchanged in an extension
 between_of_extension : (log new : List PlainEntry) (v w : ℕ) → w ≤ length log → IsExtension new log → operations_between new v w ≡ operations_between log v w
@@ -38,9 +28,6 @@ machine_of_unchanged : (m new : Machine) → IsUnchanged m new → new ≡ m
 machine_of_unchanged m new h = λ i. record { logs = h.0 i; queues = h.1 i }
 
 module _ (k : PlainKey) where
-  abbrev pub PassCalls : CallRelation Pass
-  PassCalls c p a q = AnsweredAtExtension k c p a q
-
   -- the pass has observed an extension of this history with the same share of number n
   abbrev HasSeenExtension : ℕ → Machine → Pass → Type 0
   HasSeenExtension n m p =
@@ -74,7 +61,7 @@ module _ (k : PlainKey) where
 
   -- batches that are read are entries of that history, as far as it reaches
   batches_are_prefix : (n : ℕ) (m : Machine) (v : ℕ) (xs : List PlainBatch) (p q : Pass) → HasSeenExtension n m p
-      → v + total_size xs ≤ length (m.logs k) → ReadsBatches PassCalls v xs p q
+      → v + total_size xs ≤ length (m.logs k) → ReadsBatches (PassCalls k) v xs p q
       → (entries_of xs ≡ take (total_size xs) (drop v (m.logs k))) × HasSeenExtension n m q
   unfolding ReadsBatches
   batches_are_prefix n m v [] p q h within e = (take_none (drop v (m.logs k)), subst (HasSeenExtension n m) (sym e) h) where
@@ -112,7 +99,7 @@ module _ (k : PlainKey) where
   end_of_listing v p o q last r d reads h = (d.0, d.1, h.0, d.3, d.4, d.5, reads, h.1, h.2, h.3)
 
   -- a listing consists of entries of one history
-  pub listed_at_one_history : (v : ℕ) (p q : Pass) (r : Result (List PlainEntry) Code) → ListsAll PassCalls v p r q
+  pub listed_at_one_history : (v : ℕ) (p q : Pass) (r : Result (List PlainEntry) Code) → ListsAll (PassCalls k) v p r q
       → ListedAtExtension k v p r q
   listed_at_one_history v p q (Ok es) (xs, (o, (d, reads, all))) =
       let m = machine_of d.1.shard in

@@ -1,6 +1,5 @@
 -- Laws of looks at a log or at a prefix of it.
-use Rattle.std.proofs.Common.{◌≡◌, ◌≤◌, List, [], ◌++◌, length, take, cond, None, length-append, sym, ap, ◌∙◌, arith}
-use Rattle.std.specs.Option.{is_some}
+use Rattle.std.proofs.Common.{◌≡◌, ◌≤◌, List, ◌++◌, length, take, None, length-append, sym, ap, ◌∙◌, arith}
 use Rattle.std.proofs.Math.Seq.{take-length}
 use Rattle.std.proofs.lemmas.List.{take-append-le}
 use Rattle.sdb_oplog.specs.Plain.{PlainEntry, PlainSubmission}
@@ -30,17 +29,15 @@ pub look_is_current : (log : List PlainEntry) (a : PlainAttempt) → IsLook log 
 look_is_current log a h e =
     h.is ∙ ap (λ l. look_at l a.submission) (ap (λ n. take n log) (sym e) ∙ take-length log)
 
--- its missed entries are those of a new submission
+-- its missed entries are those of the submission
 pub missed_is_current : (log : List PlainEntry) (a : PlainAttempt) → IsLook log a → length log ≡ a.look.version
-    → stored_at a.submission.src a.submission.seq log ≡ None → a.look.missed ≡ missed_entries log a.submission
-missed_is_current log a h e new =
-    ap (λ l. l.missed) (look_is_current log a h e) ∙ ap (λ o. cond (is_some o) [] (missed_entries log a.submission)) new
+    → a.look.missed ≡ missed_entries log a.submission
+missed_is_current log a h e = ap (λ l. l.missed) (look_is_current log a h e)
 
 -- its document is the current one
 pub snapshot_is_current : (log : List PlainEntry) (a : PlainAttempt) → IsLook log a → length log ≡ a.look.version
-    → stored_at a.submission.src a.submission.seq log ≡ None → a.look.snapshot ≡ document_of log
-snapshot_is_current log a h e new =
-    ap (λ l. l.snapshot) (look_is_current log a h e) ∙ ap (λ o. cond (is_some o) None (document_of log)) new
+    → a.look.snapshot ≡ document_of log
+snapshot_is_current log a h e = ap (λ l. l.snapshot) (look_is_current log a h e)
 
 -- it has no duplicate
 pub repeat_is_current : (log : List PlainEntry) (a : PlainAttempt) → IsLook log a → length log ≡ a.look.version

@@ -508,13 +508,13 @@ module _ {P : Type 0} (machine : P → Machine) where
 
   -- a pump writes the entries that wait
   pub pumps_output : (t : List PlainProjection) (s : PlainSession) (p : P) (count : ℕ) (says : List PlainAnswer → Type 0)
-      (q : P) → PumpRelation MachineActs 64 t s p count says q
+      (q : P) → PumpRelation MachineActs 64 t pass_zero s p count says q
       → IsTransition (pump_transition t (state_at p s)) says s q
   pumps_output t s p count says q (xs, (subs, takes, is, said)) =
       let all = takings_are xs p q takes in
       let xs_are : xs ≡ pump_takes s.subs (machine p) = all.0 ∙ ap (λ l. pump_takes l (machine p)) subs in
       let after : machine q ≡ machine_after_pump s.subs (machine p) = all.1 ∙ ap (λ l. machine_after_pump l (machine p)) subs in (
-        subst (λ l. says (pump_answers t s.source l)) xs_are said,
+        subst (λ l. says (pump_answers t pass_zero s.source l)) xs_are said,
         same_state (machine_after_pump s.subs (machine p))
             (machine q) s s after refl,
       )

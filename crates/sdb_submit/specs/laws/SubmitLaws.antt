@@ -15,7 +15,7 @@ use Rattle.sdb_oplog.specs.Keys.{PlainKey, Logs}
 use Rattle.sdb_oplog.specs.declared.codes.Code.TheVariants.{E4, E10}
 use Rattle.sdb_desk.specs.Looks.{IsLook}
 use Rattle.sdb_desk.specs.laws.LookLaws.{is_look_now}
-use Rattle.sdb_desk.specs.Machine.{PlainLook, PlainAttempt, PlainOutcome, decided, moved, Machine, IsUnchanged, CommitsOrOutOfMemory, DecidesOrOutOfMemory, ReadOrOutOfMemory, is_nonempty, operations_between, operations_from}
+use Rattle.sdb_desk.specs.Machine.{PlainLook, PlainAttempt, PlainOutcome, work_allocates, decided, moved, Machine, IsUnchanged, CommitsOrOutOfMemory, DecidesOrOutOfMemory, ReadOrOutOfMemory, is_nonempty, operations_between, operations_from}
 use Rattle.sdb_submit.specs.Calls.{look, commit, commit_now, current_version, ops_between, MachineStep, OnMoved}
 use Rattle.sdb_submit.specs.SubmitLoop.{CallRelation, SubmitRetries, SubmitRelation, PlainBatch, total_size, entries_of, ReadsBatches, ListsAll}
 
@@ -36,7 +36,7 @@ module _ {P : Type 0} (acts : CallRelation P) (s : PlainSubmission) (now : ℕ) 
 
   abbrev OneTry : ℕ → PlainLook → P → PlainReply → P → Type 0
   OneTry n l p r q =
-      acts (commit_now s now) p r q
+      ((work_allocates (record { submission = s; look = l }) ≡ true) × acts (commit_now s now) p r q)
       ⊎ ((acts (commit (record { submission = s; look = l }) now) p (decided r) q × (r ≢ refused E10))
       ⊎ (((o : P) × (acts (commit (record { submission = s; look = l }) now) p (decided (refused E10)) o
       × acts (commit_now s now) o r q))
@@ -45,7 +45,7 @@ module _ {P : Type 0} (acts : CallRelation P) (s : PlainSubmission) (now : ℕ) 
 
   one_try_preserves : (k : IsSubmitInvariant) (n : ℕ) (l : PlainLook) (p : P) (r : PlainReply) (q : P)
       → ((m : PlainLook) (o : P) → SubmitRetries acts s now n m o r q → D o r q) → OneTry n l p r q → D p r q
-  one_try_preserves k n l p r q below (inl h) = k.commit_now_decided p q r h
+  one_try_preserves k n l p r q below (inl h) = k.commit_now_decided p q r h.1
   one_try_preserves k n l p r q below (inr (inl h)) = k.commit_decided p q l r h.0 h.1
   one_try_preserves k n l p r q below (inr (inr (inl h))) = k.work_failed p h.0 q l r h.1.0 (k.commit_now_decided h.0 q r h.1.1)
   one_try_preserves k n l p r q below (inr (inr (inr h))) = k.commit_moved p h.1.0 q l h.0 r h.1.1.0 (below h.0 h.1.0 h.1.1.1)

@@ -6,8 +6,9 @@ use Rattle.std.proofs.lemmas.Str.{is_utf8-from_IsUtf8, IsUtf8-from_is_utf8}
 use Rattle.std.proofs.Common.{Ok, Err, IfOk}
 use Rattle.std.specs.Prelude.{Result}
 use Rattle.serde_json.specs.Read.{read}
-use Rattle.sdb_json.specs.JsonTree.{view}
-use Rattle.sdb_json.specs.declared.tree.JsonTree.{JsonTree}
+use Rattle.sdb_json.specs.TreeData.{tree_data}
+use Rattle.std.specs.declared.alloc.Global.{Global}
+use Rattle.json.specs.declared.value.Value.{Value}
 use Rattle.sdb_dump.specs.DumpLine.{and_then_some, line_of_data, read_line}
 use Rattle.sdb_dump.specs.declared.version.DumpVersion.{DumpVersion}
 use Rattle.sdb_dump.proofs.dump_line.read_line.Goals as goal
@@ -28,13 +29,13 @@ if_ok_weaker (Err x) P Q f h = tt
 pub returns-in_default-clause-read : goal.returns-in_default-clause-read
 returns-in_default-clause-read c = sym (isnt_text c.args.version c.args.line.now c.in_default.ensures.cases.0)
 
-read_as : (l t : List ℕ) (tree : Option JsonTree) (found : Option JsonTree) → t ≡ l → option_map view tree ≡ read t → tree ≡ found → read l ≡ option_map view found
-read_as l t tree found text of_text is = ap read (sym text) ∙ sym of_text ∙ ap (option_map view) is
+read_as : (l t : List ℕ) (tree : Option (Value Global)) (found : Option (Value Global)) → t ≡ l → option_map tree_data tree ≡ read t → tree ≡ found → read l ≡ option_map tree_data found
+read_as l t tree found text of_text is = ap read (sym text) ∙ sym of_text ∙ ap (option_map tree_data) is
 
 pub returns-in-Some-clause-read : goal.returns-in-Some-clause-read
 returns-in-Some-clause-read c =
     let line = c.args.line.now in
-    let e = read_as line c.in-Ok.text.now c.in_ok-value.field-0 (Some c.in-Some.value) c.in-Ok.ensures.cases.0 c.in_ok-value.ensures c.in-Some.is in
-    let is : read_line c.args.version line ≡ line_of_data c.args.version (view c.in-Some.value) =
+    let e = read_as line c.in-Ok.text.now c.in_ok-value.field-0 (Some c.in-Some.value) c.in-Ok.ensures.cases.0 c.in_ok-value.ensures.ok c.in-Some.is in
+    let is : read_line c.args.version line ≡ line_of_data c.args.version (tree_data c.in-Some.value) =
     is_text c.args.version line c.in-Ok.ensures.cases.1 ∙ ap (and_then_some (line_of_data c.args.version)) e in
     if_ok_weaker c.read_line_data.result _ _ (λ l g. g ∙ sym is) c.read_line_data.ensures.line

@@ -5,7 +5,7 @@ use Rattle.std.specs.String.{string_cmp}
 use Rattle.serde_json.specs.Data.{put}
 use Rattle.serde_json.specs.View.{view}
 use Rattle.serde_json.proofs.Views.{Entry, put_last}
-use Rattle.sdb_json.specs.JsonTree.{sorted_members}
+use Rattle.sdb_json.specs.TreeData.{sorted_members}
 use Rattle.sdb_json.proofs.ObjectLemmas.{sorted_insert}
 use Rattle.sdb_json.proofs.serde_value.borrow_members.Goals as goal
 

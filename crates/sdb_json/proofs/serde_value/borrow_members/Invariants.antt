@@ -1,7 +1,7 @@
 use Rattle.std.proofs.Common.{◌≡◌, List, ◌++◌}
 use Rattle.serde_json.specs.View.{members_view, view}
 use Rattle.serde_json.proofs.Views.{Entry}
-use Rattle.sdb_json.specs.JsonTree.{sorted_members}
+use Rattle.sdb_json.specs.TreeData.{sorted_members}
 use Rattle.sdb_json.proofs.serde_value.borrow_members.Given as goal
 
 abbrev pub invariant-loop-key : goal.invariant-loop-key

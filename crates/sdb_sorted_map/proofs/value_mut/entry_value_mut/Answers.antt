@@ -1,4 +1,4 @@
-use Rattle.std.proofs.Common.{refl, ◌≡◌, Some, option_map, slice_get, ap, sym, ◌∙◌, MutBor}
+use Rattle.std.proofs.Common.{refl, subst, IfSome, ◌≡◌, Some, option_map, slice_get, ap, sym, ◌∙◌, MutBor}
 use Rattle.std.specs.Option.{ghost_name_of}
 use Rattle.sdb_chunks.specs.ChunkedVec.{vec_models}
 use Rattle.sdb_sorted_map.specs.MapEntry.{entry_model}
@@ -20,6 +20,7 @@ returns-in_err-member g c =
         writes_back = tt;
         value = λ own flat. ap (option_map (λ (v : MutBor g.row.V.Denot). f v.now)) none
             ∙ ap (option_map (λ e. e.1)) (ap (option_map (λ (x : MutBor (MapEntry g.row.V.Denot)). entry_model f x.now)) (sym c.in_err-member.was) ∙ c.get_mut.ensures.value own flat);
+        found = subst (λ o. IfSome o (λ (v : MutBor g.row.V.Denot). option_map (λ e. e.1) (slice_get (vec_models (entry_model f) l) c.args.index) ≡ Some (f v.now))) (sym none) tt;
       },
     )
 
@@ -34,5 +35,5 @@ returns g c =
             (c.get_mut.follows.holds (record { key = c.in_ok-member.member.now.key; value = w })),
         refl,
       ),
-      record { writes_back = tt; value = λ own flat. sym (ap (option_map (λ e. e.1)) at) },
+      record { writes_back = tt; value = λ own flat. sym (ap (option_map (λ e. e.1)) at); found = ap (option_map (λ e. e.1)) at },
     )

@@ -1,6 +1,7 @@
 use Rattle.std.proofs.Common.{◌≡◌, option_map, None, refl, sym, ap, subst, string_bytes}
 use Rattle.sdb_oplog.specs.Keys.{plain_key}
-use Rattle.sdb_desk.specs.ShardView.{logs_of, queues_of}
+use Rattle.sdb_desk.specs.ShardView.{logs_of, caches_of, queues_of}
+use Rattle.sdb_steps.specs.Caches.{CachesAfterAct}
 use Rattle.sdb_steps.specs.Picks as plain
 use Rattle.sdb_steps.specs.Dispatch.{DispatchesAct, FollowsEffect}
 use Rattle.sdb_steps.specs.StateView.{one_step_of_shard, session_state_of, plain_open_attempt, queue_slots_of}
@@ -72,3 +73,11 @@ unsubscribe-requires c = subst (λ (z : Step). SlotsOpen (plain_session_step z).
 
 pub returns-in-Work-clause-has_look : goal.returns-in-Work-clause-has_look
 returns-in-Work-clause-has_look c = c.work.ensures.has_look (logs_of c.args.shard.now) c.requires.has_look
+
+pub returns-in-Snapshot-clause-caches : goal.returns-in-Snapshot-clause-caches
+returns-in-Snapshot-clause-caches c =
+    subst (λ (z : Step). CachesAfterAct (logs_of c.args.shard.now) (plain_session_step z).act (caches_of c.args.shard.now) (caches_of c.snapshot.new.shard)) (sym c.in-Snapshot.is) c.snapshot.ensures.caches
+
+pub returns-in-SnapshotAtTime-clause-caches : goal.returns-in-SnapshotAtTime-clause-caches
+returns-in-SnapshotAtTime-clause-caches c =
+    subst (λ (z : Step). CachesAfterAct (logs_of c.args.shard.now) (plain_session_step z).act (caches_of c.args.shard.now) (caches_of c.snapshot_at_time.new.shard)) (sym c.in-SnapshotAtTime.is) c.snapshot_at_time.ensures.caches

@@ -1,4 +1,5 @@
 use Rattle.sdb_transform.specs.Classification.{transformed_components}
+use Rattle.sdb_transform.proofs.PairLemmas.{any_fault}
 use Rattle.sdb_transform.proofs.SideLemmas.{transform_refused_iff, own_fault, other_refused}
 use Rattle.sdb_transform.proofs.ClassificationLemmas.{foreseen_made}
 use Rattle.sdb_transform.proofs.CrossRun.{if_ok_then, if_err_then}
@@ -12,4 +13,4 @@ returns-in_default-clause-ok c =
     if_ok_then c.transform_against.result c.transform_against.ensures.ok (λ s e rest. transform_refused_iff c.args.component c.args.other.now rest c.args.side (transformed_components s) e (foreseen_made c.classify.result c.args.other.now _ (rw c.opposite.ensures at c.classify.ensures) c.in_default.not-Refused))
 
 pub returns-in_default-clause-err : goal.returns-in_default-clause-err
-returns-in_default-clause-err c = if_err_then c.transform_against.result c.transform_against.ensures.err (λ f e rest. own_fault c.args.component c.args.other.now rest c.args.side f e)
+returns-in_default-clause-err c = if_err_then c.transform_against.result c.transform_against.ensures.err (λ f e rest. own_fault c.args.component c.args.other.now rest c.args.side f (any_fault f _ e))

@@ -3,7 +3,7 @@ use Rattle.std.proofs.lemmas.List.{drop_more, drop_all}
 use Rattle.std.proofs.lemmas.Result.{err_from_is_err_and}
 use Rattle.serde_json.specs.Data as raw
 use Rattle.serde_json.specs.View as data-view
-use Rattle.sdb_json.specs.JsonTree.{sorted_members}
+use Rattle.sdb_json.specs.TreeData.{sorted_members}
 use Rattle.sdb_sorted_map.specs.MapEntry.{key_value}
 use Rattle.sdb_sorted_map.specs.SortedMap.{map_entries, is_unique_map, map_chunks}
 use Rattle.sdb_chunks.specs.ChunkedVec.{vec_items}

@@ -4,6 +4,7 @@ use Rattle.sdb_oplog.specs.Keys.{plain_key}
 use Rattle.sdb_oplog.specs.declared.codes.Code.TheVariants.{E9}
 use Rattle.sdb_projection.specs.Table.{projection_of}
 use Rattle.sdb_oplog.specs.Plain.{PlainSubmission}
+use Rattle.sdb_submit.specs.SubmitLoop.{SubmitRelation}
 use Rattle.sdb_session.specs.Responses.{RequestOutcome, submission_of, submit_answers}
 use Rattle.sdb_session.specs.ProjectionModel.{projection_of_key}
 use Rattle.sdb_session.specs.View.{plain_session, plain_projection_option, echo_of_message, OutputUnlessFailed, WroteAnswers}
@@ -54,5 +55,6 @@ returns-clause-outcome g c =
     handled_by _ (g.D.Desk.step c.args.desk.now) e t by now s (submit k v n src m) c.args.pass.now c.write_reply.result wrote new c.submit-reply.new.pass
     (subst (λ x. RequestOutcome (g.D.Desk.step c.args.desk.now) e t by now s (submit k v n src m) c.args.pass.now (OutputUnlessFailed c.write_reply.result wrote) x c.submit-reply.new.pass) (sym same)
     (sent_handles (g.D.Desk.step c.args.desk.now) e t by now s c.args.pass.now c.submit-reply.new.pass (OutputUnlessFailed c.write_reply.result wrote) k o seen
-    v n src m (plain_key c.base_key_or-base.result.now) u r (sym c.permits.ensures ∙ c.if-not-permits.false) (c.base_key_or-base.ensures ∙ c.in_ok-moved.ensures) is c.submit-reply.ensures.chain
+    v n src m (plain_key c.base_key_or-base.result.now) u r (sym c.permits.ensures ∙ c.if-not-permits.false) (c.base_key_or-base.ensures ∙ c.in_ok-moved.ensures) is
+    (subst (λ (x : PlainSubmission). SubmitRelation (g.D.Desk.step c.args.desk.now (plain_key c.base_key_or-base.result.now)) x now c.args.pass.now r c.submit-reply.new.pass) c.in_ok-copy.ensures c.submit-reply.ensures.chain)
     (on_output c.write_reply.result wrote (submit_answers e o k u.src u.seq r) c.write_reply.ensures)))

@@ -54,6 +54,7 @@ loop-key-preserved g c =
     let rest = c.next.new.self in
     let source = (plain_session c.args.self.now).source in
     let t = c.args.table.now in
+    let by = g.D.Desk.pass_number c.args.desk.now c.args.pass.now in
     let k = plain_key c.in-Some.key.now in
     record {
       takes = c.take_entries.ensures.accepted;
@@ -65,9 +66,11 @@ loop-key-preserved g c =
           taken_sub plain_subscription far.0 x e c.loop-key.key-iterator rest (plain_session c.args.self.now).subs c.in-Some.ensures.steps refl far.1.0,
           takes_more (g.D.Desk.step c.args.desk.now) c.args.max far.0 x c.args.pass.now c.loop-key.pass c.take_entries.new.pass far.1.1 c.in_ok-entries.ensures.takes_one,
           omega (arith, counts_more far.0 x, far.1.2, c.len.ensures),
-          pieces_more g.O.AnswerSink.items (g.O.AnswerSink.contents c.args.out.now) (g.O.AnswerSink.contents c.loop-key.out) (g.O.AnswerSink.contents c.write_entries_of_others.new.out) (pump_answers t source far.0) (take_answers t source x) far.1.3
-              (c.in_ok-write_entries_of_others.ensures ∙ ap (λ es. g.O.AnswerSink.contents c.loop-key.out ++ answer_items g.O.AnswerSink.items (entry_answers (projection_of_key t k) k (entries_of_others source k es))) c.as_slice.ensures.value)
-              ∙ ap (λ a. g.O.AnswerSink.contents c.args.out.now ++ answer_items g.O.AnswerSink.items a) (sym (output_more t source far.0 x)),
+          pieces_more g.O.AnswerSink.items (g.O.AnswerSink.contents c.args.out.now) (g.O.AnswerSink.contents c.loop-key.out) (g.O.AnswerSink.contents c.write_entries_of_others.new.out) (pump_answers t by source far.0) (take_answers t by source x) far.1.3
+              (c.in_ok-write_entries_of_others.ensures
+              ∙ ap (λ b. g.O.AnswerSink.contents c.loop-key.out ++ answer_items g.O.AnswerSink.items (entry_answers (projection_of_key t k) k (entries_of_others b source k c.as_slice.result.now))) c.by-by.ensures
+              ∙ ap (λ es. g.O.AnswerSink.contents c.loop-key.out ++ answer_items g.O.AnswerSink.items (entry_answers (projection_of_key t k) k (entries_of_others by source k es))) c.as_slice.ensures.value)
+              ∙ ap (λ a. g.O.AnswerSink.contents c.args.out.now ++ answer_items g.O.AnswerSink.items a) (sym (output_more t by source far.0 x)),
         ),
       );
     }

@@ -9,4 +9,4 @@ use Rattle.sdb_session.proofs.session.Session.write_entries_of_others.Given as g
 abbrev pub invariant-loop-entry : goal.invariant-loop-entry
 invariant-loop-entry g l =
     WroteAnswers g.O.AnswerSink.items (g.O.AnswerSink.contents l.initial.out) (g.O.AnswerSink.contents l.out)
-    (entry_answers (projection_of_key l.table (plain_key l.key)) (plain_key l.key) (entries_of_others (plain_session l.self).source (plain_key l.key) (take l.entry-index l.entries)))
+    (entry_answers (projection_of_key l.table (plain_key l.key)) (plain_key l.key) (entries_of_others l.by (plain_session l.self).source (plain_key l.key) (take l.entry-index l.entries)))

@@ -45,8 +45,8 @@ invariant_of-self c =
       looked = looked_set (logs_of c.args.self.now.shard) (logs_of c.dispatch.new.shard) xs i y (grows_dispatched s.session (one_step_of_shard c.args.self.now.shard) (one_step_of_shard c.dispatch.new.shard) (session_state_of q c.index_mut.result.now) (session_state_of r y) s.act (plain_step_answer c.dispatch.result) c.dispatch.ensures.dispatches) c.args.self.now.looked c.dispatch.ensures.has_look;
     }
 
-pub returns : goal.returns
-returns c =
+pub returns-clause-step : goal.returns-clause-step
+returns-clause-step c =
     let xs = c.args.self.now.sessions.items in
     let q = queues_of c.args.self.now.shard in
     let r = queues_of c.dispatch.new.shard in

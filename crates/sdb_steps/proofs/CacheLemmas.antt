@@ -1,0 +1,35 @@
+-- Each cached snapshot is one of its log, also after a step.
+use Rattle.std.proofs.Common.{◌≡◌, ℕ, [], length, unwrap_or, sym, subst}
+use Rattle.sdb_oplog.specs.Keys.{PlainKey, Logs}
+use Rattle.sdb_desk.specs.Machine.{version_at_moment}
+use Rattle.sdb_desk.specs.ShardView.{CachesByKey, AreCachesOf}
+use Rattle.sdb_desk.specs.laws.CachesLaws.{snaps_after_read, changed_cache, extended_caches}
+use Rattle.sdb_submit.specs.Calls.{CachesAfterRead}
+use Rattle.sdb_steps.specs.Caches.{CachesAfterAct}
+use Rattle.sdb_steps.specs.OneStep.{OneStep}
+use Rattle.sdb_steps.specs.Picks as plain
+use Rattle.sdb_steps.specs.Picks.{SessionStates, StepKind, PlainSessionStep, PlainStepAnswer}
+use Rattle.sdb_steps.specs.Runs.{IsStep}
+use Rattle.sdb_steps.proofs.GrowthLemmas.{grows_step}
+
+unchanged_caches : (logs : Logs) (old new : CachesByKey) → AreCachesOf logs old → new ≡ old → AreCachesOf logs new
+unchanged_caches logs old new all is = subst (AreCachesOf logs) (sym is) all
+
+read_cache : (logs : Logs) (k : PlainKey) (v : ℕ) (old new : CachesByKey) → AreCachesOf logs old → CachesAfterRead k logs v old new → AreCachesOf logs new
+read_cache logs k v old new all h = changed_cache logs k (new k) old new all (snaps_after_read (logs k) v (old k) (new k) (all k) h.0) h.1
+
+caches_after_act : (logs : Logs) (act : StepKind) (old new : CachesByKey) → AreCachesOf logs old → CachesAfterAct logs act old new → AreCachesOf logs new
+caches_after_act logs (plain.begin k src seq v content) old new all h = unchanged_caches logs old new all h
+caches_after_act logs plain.work old new all h = unchanged_caches logs old new all h
+caches_after_act logs (plain.commit now) old new all h = unchanged_caches logs old new all h
+caches_after_act logs (plain.fetch k) old new all h = unchanged_caches logs old new all h
+caches_after_act logs (plain.snapshot k v) old new all h = read_cache logs k (unwrap_or v (length (logs k))) old new all h
+caches_after_act logs (plain.snapshot_at_time k t) old new all h = read_cache logs k (version_at_moment (logs k) t) old new all h
+caches_after_act logs (plain.subscribe k v) old new all h = unchanged_caches logs old new all h
+caches_after_act logs (plain.take k max) old new all h = unchanged_caches logs old new all h
+caches_after_act logs (plain.unsubscribe k) old new all h = unchanged_caches logs old new all h
+caches_after_act logs (plain.forget k) old new all h = changed_cache logs k [] old new all tt h
+
+pub caches_after_step : (m n : OneStep) (w v : SessionStates) (s : PlainSessionStep) (a : PlainStepAnswer) (old new : CachesByKey) → IsStep m w s a n v → CachesAfterAct m.logs s.act old new → AreCachesOf m.logs old → AreCachesOf n.logs new
+caches_after_step m n w v s a old new step acts all =
+    extended_caches m.logs n.logs new (λ k. let g = grows_step m n w v s a k step in (g.more, g.is)) (caches_after_act m.logs s.act old new all acts)
