@@ -1,5 +1,5 @@
 -- The dump of the last world.
-use Rattle.std.proofs.Common.{◌≡◌, ℕ, ◌⊎◌, inl, inr, List, [], ◌∷◌, ◌++◌, map, Option, Result, Ok, Err, OnOk, IfOk, IsErrOf, refl, sym, ap, ◌∙◌, subst}
+use Rattle.std.proofs.Common.{◌≡◌, ◌≢◌, All, ℕ, ◌⊎◌, inl, inr, List, [], ◌∷◌, ◌++◌, map, Option, Result, Ok, Err, OnOk, IfOk, IsErrOf, refl, sym, ap, ◌∙◌, subst}
 use Rattle.std.specs.Io.KnownBytes.{Appends}
 use Rattle.std.proofs.KnownBytes.{Appends-nil, Appends-trans}
 use Rattle.sdb_lines.specs.Prefixes.{AppendsPrefix}
@@ -14,7 +14,7 @@ use Rattle.sdb_oplog.specs.declared.codes.Code.{Code}
 use Rattle.sdb_steps.specs.WorldView.{one_step_of_world, sessions_of}
 use Rattle.sdb_steps.specs.Lines.{reading_step, steps_in}
 use Rattle.sdb_steps.specs.OneStep.{OneStep, empty_machine}
-use Rattle.sdb_steps.specs.Picks.{SessionStates, PlainSessionStep, PlainStepAnswer, empty_sessions}
+use Rattle.sdb_steps.specs.Picks.{SessionStates, PlainSessionStep, PlainStepAnswer, out_of_memory, empty_sessions}
 use Rattle.sdb_steps.specs.Runs.{IsStep, IsRun}
 use Rattle.sdb_steps.proofs.StepLists.{AreSteps}
 use Rattle.sdb_steps.specs.RunOutput.{StepWithoutAnswer, EndsWithLogs, WroteWorldDump, WroteWorldDumpPrefix}
@@ -27,29 +27,32 @@ WorldTakesLine w line answer v =
     StepWithoutAnswer (reading_step line) (one_step_of_world w.world) (sessions_of w.world) answer (one_step_of_world v.world) (sessions_of v.world)
 
 -- a step is run, whatever its answer
-pub step_without_answer : (r : Result PlainSessionStep Code) (s : PlainSessionStep) (m n : OneStep) (w v : SessionStates) (a : PlainStepAnswer) → r ≡ Ok s → IsStep m w s a n v → StepWithoutAnswer r m w [] n v
-step_without_answer r s m n w v a e h = subst (λ (q : Result PlainSessionStep Code). StepWithoutAnswer q m w [] n v) (sym e) (refl, (a, h))
+pub step_without_answer : (r : Result PlainSessionStep Code) (s : PlainSessionStep) (m n : OneStep) (w v : SessionStates) (a : PlainStepAnswer) → r ≡ Ok s → a ≢ out_of_memory → IsStep m w s a n v → StepWithoutAnswer r m w [] n v
+step_without_answer r s m n w v a e some h = subst (λ (q : Result PlainSessionStep Code). StepWithoutAnswer q m w [] n v) (sym e) (refl, (a, some, h))
 
 -- the steps among these readings, with some answers, and no output
 record RunWithoutAnswers (m : OneStep) (w : SessionStates) (readings : List (Result PlainSessionStep Code)) (text : List ℕ) (n : OneStep) (v : SessionStates) : Type 0 where
   pub answers : List PlainStepAnswer
+  pub allocated : All (λ a. a ≢ out_of_memory) answers
   pub steps : AreSteps m w (steps_in readings) answers n v
   pub nothing : text ≡ []
 
 one_more : (r : Result PlainSessionStep Code) (m o n : OneStep) (w u v : SessionStates) (readings : List (Result PlainSessionStep Code)) (answer more text : List ℕ) → StepWithoutAnswer r m w answer o u → text ≡ answer ++ more → RunWithoutAnswers o u readings more n v → RunWithoutAnswers m w (r ∷ readings) text n v
-one_more (Ok s) m o n w u v readings answer more text (none, (a, step)) is t = record {
+one_more (Ok s) m o n w u v readings answer more text (none, (a, some, step)) is t = record {
   answers = a ∷ t.answers;
+  allocated = (some, t.allocated);
   steps = (o, u, step, t.steps);
   nothing = is ∙ ap (λ (b : List ℕ). b ++ more) none ∙ t.nothing;
 }
 one_more (Err code) m o n w u v readings answer more text (none, same, kept) is t = record {
   answers = t.answers;
+  allocated = t.allocated;
   steps = subst (λ (x : OneStep). AreSteps x w (steps_in readings) t.answers n v) same (subst (λ (x : SessionStates). AreSteps o x (steps_in readings) t.answers n v) kept t.steps);
   nothing = is ∙ ap (λ (b : List ℕ). b ++ more) none ∙ t.nothing;
 }
 
 run_without_answers : (s t : SilentRunner) (input : List (Option (List ℕ))) (text : List ℕ) → lines.Handles WorldTakesLine s input text t → RunWithoutAnswers (one_step_of_world s.world) (sessions_of s.world) (map reading_step input) text (one_step_of_world t.world) (sessions_of t.world)
-run_without_answers s t [] text h = record { answers = []; steps = (ap (λ u. one_step_of_world u.world) h.1, ap (λ u. sessions_of u.world) h.1); nothing = h.0 }
+run_without_answers s t [] text h = record { answers = []; allocated = tt; steps = (ap (λ u. one_step_of_world u.world) h.1, ap (λ u. sessions_of u.world) h.1); nothing = h.0 }
 run_without_answers s t (line ∷ input) text (answer, next, more, takes, rest, is) =
     one_more (reading_step line) (one_step_of_world s.world) (one_step_of_world next.world) (one_step_of_world t.world) (sessions_of s.world) (sessions_of next.world) (sessions_of t.world) (map reading_step input) answer more text takes is (run_without_answers next t input more rest)
 
@@ -61,7 +64,7 @@ run_leaves_logs s t input text new fresh h =
     let first = run_none (one_step_of_world s.world) (sessions_of s.world) [] refl new fresh in
     let all : IsRun steps r.answers (one_step_of_world t.world) (sessions_of t.world) = run_on (one_step_of_world s.world) (one_step_of_world t.world) (sessions_of s.world) (sessions_of t.world) [] steps [] r.answers first r.steps in
     let l = legal_run steps r.answers (one_step_of_world t.world) (sessions_of t.world) all in
-    record { answers = r.answers; events = l.0; sessions = sessions_of t.world; picks = l.1; legal = l.2 }
+    record { answers = r.answers; allocated = r.allocated; events = l.0; sessions = sessions_of t.world; picks = l.1; legal = l.2 }
 
 -- without answers the output is unchanged
 pub nothing_written : (s t : SilentRunner) (input : List (Option (List ℕ))) (old new : Option (List ℕ)) → AppendsAnswers WorldTakesLine s input t [] old new → Appends old new []

@@ -1,5 +1,5 @@
 -- The output of a run over lines that starts with an empty world.
-use Rattle.std.specs.Prelude.{◌≡◌, ℕ, ◌⊎◌, List, [], map, Option, Result, Ok, Err}
+use Rattle.std.specs.Prelude.{◌≡◌, ◌≢◌, ℕ, ◌⊎◌, List, [], map, All, Option, Result, Ok, Err}
 use Rattle.std.specs.Io.KnownBytes.{Appends}
 use Rattle.sdb_dump.specs.WriteModel as dumps
 use Rattle.sdb_dump.specs.WriteModel.{WroteDump, HasEntryCount}
@@ -8,7 +8,7 @@ use Rattle.sdb_oplog.specs.Keys.{Logs}
 use Rattle.sdb_oplog.specs.declared.codes.Code.{Code}
 use Rattle.sdb_steps.specs.Lines.{reading_step, step_answer_text, step_refusal_text, line_of, steps_in, lines_text}
 use Rattle.sdb_steps.specs.OneStep.{OneStep, Event, Legal}
-use Rattle.sdb_steps.specs.Picks.{SessionStates, PlainSessionStep, PlainStepAnswer, Picks, replies_in}
+use Rattle.sdb_steps.specs.Picks.{SessionStates, PlainSessionStep, PlainStepAnswer, Picks, out_of_memory, replies_in}
 use Rattle.sdb_steps.specs.Runs.{IsStep}
 
 -- one line: a step is answered, and any other line is refused and changes nothing
@@ -38,16 +38,17 @@ WroteRunPrefix lines old new =
 
 -- ---- the dump of the last world
 
--- one line without a written answer
+-- one line without a written answer; a step doesn't fail to allocate
 abbrev pub StepWithoutAnswer : Result PlainSessionStep Code → OneStep → SessionStates → List ℕ → OneStep → SessionStates → Type 0
-StepWithoutAnswer (Ok s) m w bytes n v = (bytes ≡ []) × ((a : PlainStepAnswer) × IsStep m w s a n v)
+StepWithoutAnswer (Ok s) m w bytes n v = (bytes ≡ []) × ((a : PlainStepAnswer) × (a ≢ out_of_memory) × IsStep m w s a n v)
 StepWithoutAnswer (Err code) m w bytes n v = (bytes ≡ []) × (n ≡ m) × (v ≡ w)
 
--- the steps end with these logs by the reference machine, each submission at its deciding commit
+-- the steps end with these logs by the reference machine, each submission at its deciding commit, and none fails to allocate
 pub record EndsWithLogs (readings : List (Result PlainSessionStep Code)) (logs : Logs) : Type 0 where
   pub answers : List PlainStepAnswer
   pub events : List Event
   pub sessions : SessionStates
+  pub allocated : All (λ a. a ≢ out_of_memory) answers
   pub picks : Picks (steps_in readings) answers events sessions
   pub legal : Legal events (replies_in answers) logs
 

@@ -1,13 +1,16 @@
 //! The dump of a world.
-ghost use Rattle.std.specs.Prelude.{◌≡◌, [], map, OnOk, OnErr, IfOk, IfSome, IsErrOf};
+ghost use Rattle.std.specs.Prelude.{◌≡◌, ◌≢◌, [], map, OnOk, OnErr, IfOk, IfSome, IsErrOf};
 ghost use Rattle.sdb_lines.specs.Lines.{readable_text, lines_of};
 ghost use Rattle.sdb_lines.specs.Streams.{ReadFaultIsCounted, WriteFaultIsCounted};
 ghost use Rattle.sdb_dump.specs.WriteModel.{HasEntryCount, WroteDump, WroteDumpPrefix};
 ghost use Rattle.sdb_steps.specs.WorldView.{one_step_of_world, sessions_of};
 ghost use Rattle.sdb_steps.specs.Lines.{reading_step, is_step};
+ghost use Rattle.sdb_steps.specs.Picks.{out_of_memory};
+ghost use Rattle.sdb_steps.specs.View.{plain_step_answer};
 ghost use Rattle.sdb_steps.specs.RunOutput.{StepWithoutAnswer, WroteWorldDump, WroteWorldDumpPrefix};
 
 use crate::read::read_step;
+use crate::step::StepAnswer;
 use crate::world::World;
 use sdb_dump::write_dump;
 use sdb_lines::{LineHandler, RunFault, Sink, Source, run_lines};
@@ -34,7 +37,7 @@ pub fn dump<W: Sink>(alloc: Global, world: &World, writer: &mut W) -> Result<u12
     write_dump(alloc, world, writer)
 }
 
-// A world that runs lines without writing answers.
+// A world that runs lines without writing answers, until a step fails to allocate.
 #[derive(Drop)]
 struct SilentRunner {
     world: World,
@@ -60,7 +63,7 @@ impl LineHandler for SilentRunner {
     ) -> Result<bool, AllocError> {
         match read_step(alloc, line) {
             Ok(step) => {
-                self.world.step(step);
+                check_allocated(&self.world.step(step))?;
                 Ok(true)
             }
             Err(code) => {
@@ -75,12 +78,24 @@ impl LineHandler for SilentRunner {
     }
 }
 
+// Fails if the step failed to allocate.
+fn check_allocated(answer: &StepAnswer) -> Result<(), AllocError>
+    ensures ok { OnOk result (plain_step_answer answer.now ≢ out_of_memory) }
+    ensures err { OnErr result (plain_step_answer answer.now ≡ out_of_memory) }
+{
+    match answer {
+        StepAnswer::OutOfMemory => Err(AllocError),
+        _ => Ok(()),
+    }
+}
+
 /// Runs the lines of a reader as [`run`](crate::run) does, without writing answers, and then writes
-/// the dump of the logs. Returns the dump's number of entries.
+/// the dump of the logs. Returns the dump's number of entries. No step failed to allocate.
 ///
 /// # Errors
 ///
-/// As [`run`](crate::run). The bytes written are a prefix of the dump, possibly empty.
+/// [`RunFault::OutOfMemory`] if an allocation fails, also that of a step, or the fault of a read or
+/// write that failed. The bytes written are a prefix of the dump, possibly empty.
 pub fn run_dump<R: Source, W: Sink>(
     alloc: Global,
     reader: &mut R,
