@@ -25,8 +25,8 @@ use std::alloc::{AllocError, Global};
 use std::sync::Wait;
 
 /// A document store for many threads, with lock striping: a key's lock is that of its shard. Each
-/// call acquires one lock, makes one call of the shard and releases the lock. Transforming and
-/// applying run without a lock.
+/// call as a desk acquires one lock, makes one call of the shard and releases the lock.
+/// Transforming and applying run without a lock.
 ///
 /// ```
 /// let (backend, mut host) = Backend::new(alloc, rt)?;
