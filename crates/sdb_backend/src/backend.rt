@@ -25,8 +25,8 @@ use std::alloc::{AllocError, Global};
 use std::sync::Wait;
 
 /// A document store for many threads, with lock striping: a key's lock is that of its shard. Each
-/// call acquires one lock, makes one call of the shard and releases the lock. Transforming and
-/// applying run without a lock.
+/// call as a desk acquires one lock, makes one call of the shard and releases the lock.
+/// Transforming and applying run without a lock.
 ///
 /// ```
 /// let (backend, mut host) = Backend::new(alloc, rt)?;
@@ -38,7 +38,7 @@ use std::sync::Wait;
 /// assert_eq!(rt; backend.fetch(&mut pass, &key)?.version, 1);
 /// ```
 #[derive(Drop)]
-pub struct Backend<R: Wait> {
+pub struct Backend<R> {
     pub(crate) alloc: Global,
     pub(crate) rt: R,
     pub(crate) locks: StripedLock<Held>,
@@ -55,14 +55,14 @@ pub enum CloseError {
 
 /// A refused close, with all its arguments. The passes are in the order of their numbers.
 #[derive(Drop)]
-pub struct CloseRefused<R: Wait> {
+pub struct CloseRefused<R> {
     pub error: CloseError,
     pub backend: Backend<R>,
     pub host: Host,
     pub passes: Vec<Pass>,
 }
 
-impl<R: Wait + Drop> Backend<R> {
+impl<R: Drop> Backend<R> {
     /// Creates a backend without documents, and its host. The backend keeps the allocator, and `rt`
     /// to wait for locks.
     ///
@@ -85,7 +85,7 @@ impl<R: Wait + Drop> Backend<R> {
     }
 
     /// Creates a pass with a new number, starting with 1. The pass has observed what its host has,
-    /// and nothing is stored under its number.
+    /// and nothing is stored under its number. It doesn't wait.
     ///
     /// # Errors
     ///
@@ -134,7 +134,7 @@ impl<R: Wait + Drop> Backend<R> {
 
     /// Closes the backend, given its host and all its passes, and returns the audit of its logs.
     /// The audit extends the history that each pass has observed, and contains only entries that
-    /// the passes stored.
+    /// the passes stored. It doesn't wait.
     ///
     /// # Errors
     ///
@@ -189,7 +189,9 @@ impl<R: Wait + Drop> Backend<R> {
             }),
         }
     }
+}
 
+impl<R: Wait> Backend<R> {
     // Runs the job on the documents of the key's shard, with the lock acquired.
     pub(crate) fn run<J: Job<Held>>(&self, pass: &mut Pass, key: &Key, job: J) -> J::Answer
         requires pass { IsPassOfBackend pass.old self.now }

@@ -22,7 +22,8 @@ use std::alloc::{AllocError, Global};
 use std::sync::Wait;
 
 /// Each call gets the machine's answer at one history of the key's shard, an extension of what the
-/// pass has observed. A call that doesn't decide holds the lock only while it copies its result.
+/// pass has observed. Each call but `by` waits until the lock of its shard is free. A call that
+/// doesn't decide holds the lock only while it copies its result.
 impl<R: Wait + Drop> Desk for Backend<R> {
     type Pass = Pass;
 

@@ -23,18 +23,14 @@ const PAUSE_MS: u64 = 2;
 
 // The threads of all connections, and the number of passes created.
 #[derive(Drop)]
-struct Acceptor<R: Wait> {
+struct Acceptor<R> {
     handshakes: HandshakeThreads,
     sessions: SessionThreads<R>,
     pass_count: u64,
     is_accept_failing: bool,
 }
 
-impl<R> Acceptor<R>
-where
-    R: Net<Listener = TcpListener, Stream = TcpStream>,
-    R: Threads + Wait + Clock + Eprint + Drop + Copy + Send + Sync + 'static,
-{
+impl<R: Drop> Acceptor<R> {
     fn new(
         alloc: Global,
         state: &ServerState<R>,
@@ -59,6 +55,57 @@ where
         self.handshakes.is_empty() && self.sessions.is_empty()
     }
 
+    fn end_session(&mut self, rt: &R, state: &ServerState<R>, slot: usize)
+    where
+        R: Threads + Eprint,
+        ensures sessions { SameBackends self.old.sessions self.new.sessions }
+        ensures pass_count { self.new.pass_count ≡ self.old.pass_count }
+    {
+        if let Some(report) = self.sessions.join(rt, slot)
+            && state.is_logging()
+        {
+            log_end(rt, &report);
+        }
+    }
+
+    // Logs a failure to accept, once until accepting works again.
+    fn log_failure(&mut self, rt: &R, error: &Error)
+    where
+        R: Eprint,
+        ensures sessions { SameBackends self.old.sessions self.new.sessions }
+        ensures pass_count { self.new.pass_count ≡ self.old.pass_count }
+    {
+        let is_failing = !matches!(error.kind(), ErrorKind::WouldBlock | ErrorKind::Interrupted);
+        if is_failing && !self.is_accept_failing {
+            log_accept_error(rt, error);
+        }
+        self.is_accept_failing = is_failing;
+    }
+
+    // Creates a pass for one more client, if the backend has one.
+    fn new_pass(&mut self, state: &ServerState<R>, host: &mut Host) -> Option<Pass>
+        requires bound { self.old.pass_count ≤ next_pass_number host.old }
+        requires host { IsHostOfServer host.old state.now }
+        ensures host { IsHostOfServer host.new state.now }
+        ensures pass { IfSome result (λ p. IsPassOfBackend p state.now.backend) }
+        ensures count { self.new.pass_count + next_pass_number host.old
+            ≡ self.old.pass_count + next_pass_number host.new }
+        ensures pass_count { self.old.pass_count ≤ self.new.pass_count }
+        ensures sessions { SameBackends self.old.sessions self.new.sessions }
+    {
+        let Ok(pass) = state.backend.enter(host) else {
+            return None;
+        };
+        self.pass_count += 1;
+        Some(pass)
+    }
+}
+
+impl<R> Acceptor<R>
+where
+    R: Net<Listener = TcpListener, Stream = TcpStream>,
+    R: Threads + Wait + Clock + Eprint + Drop + Copy + Send + Sync + 'static,
+{
     // Joins one thread that is about to end, and accepts one connection if `listener` is given.
     // Returns `false` if there was nothing to do.
     fn step(
@@ -119,17 +166,6 @@ where
         }
     }
 
-    fn end_session(&mut self, rt: &R, state: &ServerState<R>, slot: usize)
-        ensures sessions { SameBackends self.old.sessions self.new.sessions }
-        ensures pass_count { self.new.pass_count ≡ self.old.pass_count }
-    {
-        if let Some(report) = self.sessions.join(rt, slot)
-            && state.is_logging()
-        {
-            log_end(rt, &report);
-        }
-    }
-
     // Accepts one connection if one waits and a handshake slot is free.
     fn accept_next(
         &mut self,
@@ -157,18 +193,6 @@ where
                 false
             }
         }
-    }
-
-    // Logs a failure to accept, once until accepting works again.
-    fn log_failure(&mut self, rt: &R, error: &Error)
-        ensures sessions { SameBackends self.old.sessions self.new.sessions }
-        ensures pass_count { self.new.pass_count ≡ self.old.pass_count }
-    {
-        let is_failing = !matches!(error.kind(), ErrorKind::WouldBlock | ErrorKind::Interrupted);
-        if is_failing && !self.is_accept_failing {
-            log_accept_error(rt, error);
-        }
-        self.is_accept_failing = is_failing;
     }
 
     // Starts a thread for a handshake or a refusal. Without a thread the connection is closed.
@@ -245,24 +269,6 @@ where
             log_no_thread(&rt);
         }
         Ok(())
-    }
-
-    // Creates a pass for one more client, if the backend has one.
-    fn new_pass(&mut self, state: &ServerState<R>, host: &mut Host) -> Option<Pass>
-        requires bound { self.old.pass_count ≤ next_pass_number host.old }
-        requires host { IsHostOfServer host.old state.now }
-        ensures host { IsHostOfServer host.new state.now }
-        ensures pass { IfSome result (λ p. IsPassOfBackend p state.now.backend) }
-        ensures count { self.new.pass_count + next_pass_number host.old
-            ≡ self.old.pass_count + next_pass_number host.new }
-        ensures pass_count { self.old.pass_count ≤ self.new.pass_count }
-        ensures sessions { SameBackends self.old.sessions self.new.sessions }
-    {
-        let Ok(pass) = state.backend.enter(host) else {
-            return None;
-        };
-        self.pass_count += 1;
-        Some(pass)
     }
 }
 

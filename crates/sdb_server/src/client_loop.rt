@@ -62,7 +62,7 @@ enum Incoming {
 
 // One client: its socket, its session and the services that it uses.
 #[derive(Drop)]
-struct Client<'a, R: Wait, C, S> {
+struct Client<'a, R, C, S> {
     rt: &'a R,
     alloc: Global,
     socket: &'a mut WebSocket<DeadlineStream<S>, NoMask>,
@@ -80,7 +80,7 @@ struct Client<'a, R: Wait, C, S> {
 
 /// What a session uses, except its pass.
 #[derive(Drop)]
-pub(crate) struct Service<'a, R: Wait, C> {
+pub(crate) struct Service<'a, R, C> {
     /// The documents.
     pub(crate) backend: &'a Backend<R>,
     /// The projections through which the session sees documents.
@@ -214,17 +214,6 @@ impl<'a, R: Wait + Drop, C: Clock + Drop, S: Read + Write + Drop> Client<'a, R, 
         unreachable!()
     }
 
-    fn open(&mut self) -> Result<(), SessionEnd>
-        requires { IsPassOfBackend self.old.pass self.old.backend.now }
-        ensures { KeepsPass self.old.backend.now self.old.pass self.new.backend.now self.new.pass }
-    {
-        let opening = self.session.opening()?;
-        self.send(opening)?;
-        self.socket.flush()?;
-        self.ask_to_be_woken();
-        Ok(())
-    }
-
     // Reads once, answers, pumps and flushes. Ends the session if the server is shutting down.
     fn poll_once(&mut self) -> Result<(), SessionEnd>
         requires { IsPassOfBackend self.old.pass self.old.backend.now }
@@ -240,25 +229,6 @@ impl<'a, R: Wait + Drop, C: Clock + Drop, S: Read + Write + Drop> Client<'a, R, 
         self.check_idle(&incoming)?;
         self.socket.flush()?;
         Ok(())
-    }
-
-    fn is_ending(&self) -> bool {
-        match self.is_ending {
-            Some(is_ending) => is_ending.load(Ordering::SeqCst),
-            None => false,
-        }
-    }
-
-    // Reads once, and clears the session's waiting flag.
-    fn next_incoming(&mut self) -> Result<Incoming, SessionEnd>
-        requires { IsPassOfBackend self.old.pass self.old.backend.now }
-        ensures { KeepsPass self.old.backend.now self.old.pass self.new.backend.now self.new.pass }
-    {
-        let incoming = next_incoming(self.socket);
-        if let Some(following) = self.wake_handle {
-            following.clear_waiting();
-        }
-        incoming
     }
 
     fn answer(&mut self, incoming: &Incoming) -> Result<(), SessionEnd>
@@ -314,25 +284,6 @@ impl<'a, R: Wait + Drop, C: Clock + Drop, S: Read + Write + Drop> Client<'a, R, 
         }
     }
 
-    fn answer_binary(&mut self) -> Result<(), SessionEnd>
-        requires { IsPassOfBackend self.old.pass self.old.backend.now }
-        ensures { KeepsPass self.old.backend.now self.old.pass self.new.backend.now self.new.pass }
-    {
-        self.messages = self.messages.saturating_add(1);
-        self.clock.now();
-        let mut sink = SocketSink::new(self.socket);
-        let refused = self.session.refuse_unreadable_to(&mut sink);
-        sent_or_end(refused, sink.failure)
-    }
-
-    // Sets the waiting flag. The session must check its queues afterwards, so that no entry is
-    // missed.
-    fn ask_to_be_woken(&self) {
-        if let Some(following) = self.wake_handle {
-            following.wait();
-        }
-    }
-
     // Sends stored entries. If more are left after `PUMP_LIMIT` pumps, the next read returns at
     // once.
     fn pump(&mut self) -> Result<(), SessionEnd>
@@ -362,6 +313,85 @@ impl<'a, R: Wait + Drop, C: Clock + Drop, S: Read + Write + Drop> Client<'a, R, 
             .session
             .pump_to(backend, &mut self.pass, table, TAKE_LIMIT, &mut sink);
         sent_or_end(pumped, sink.failure)
+    }
+
+    // Closes the session's queues, and returns the socket and the session's result.
+    fn finish(self, end: SessionEnd) -> (&'a mut WebSocket<DeadlineStream<S>, NoMask>, Served)
+        requires { IsPassOfBackend self.pass self.backend.now }
+        ensures pass { IsPassOfBackend result.1.pass self.entry.backend.now }
+        ensures number { pass_number result.1.pass ≡ pass_number self.entry.pass }
+    {
+        let Client {
+            alloc,
+            socket,
+            backend,
+            mut pass,
+            session,
+            messages,
+            operations,
+            ..
+        } = self;
+        let source = source_of(alloc, &session);
+        session.end(backend, &mut pass);
+        let served = Served {
+            pass,
+            end,
+            source,
+            messages,
+            operations,
+        };
+        (socket, served)
+    }
+}
+
+impl<'a, R, C: Clock + Drop, S: Read + Write + Drop> Client<'a, R, C, S> {
+    fn open(&mut self) -> Result<(), SessionEnd>
+        requires { IsPassOfBackend self.old.pass self.old.backend.now }
+        ensures { KeepsPass self.old.backend.now self.old.pass self.new.backend.now self.new.pass }
+    {
+        let opening = self.session.opening()?;
+        self.send(opening)?;
+        self.socket.flush()?;
+        self.ask_to_be_woken();
+        Ok(())
+    }
+
+    fn is_ending(&self) -> bool {
+        match self.is_ending {
+            Some(is_ending) => is_ending.load(Ordering::SeqCst),
+            None => false,
+        }
+    }
+
+    // Reads once, and clears the session's waiting flag.
+    fn next_incoming(&mut self) -> Result<Incoming, SessionEnd>
+        requires { IsPassOfBackend self.old.pass self.old.backend.now }
+        ensures { KeepsPass self.old.backend.now self.old.pass self.new.backend.now self.new.pass }
+    {
+        let incoming = next_incoming(self.socket);
+        if let Some(following) = self.wake_handle {
+            following.clear_waiting();
+        }
+        incoming
+    }
+
+    fn answer_binary(&mut self) -> Result<(), SessionEnd>
+        requires { IsPassOfBackend self.old.pass self.old.backend.now }
+        ensures { KeepsPass self.old.backend.now self.old.pass self.new.backend.now self.new.pass }
+    {
+        self.messages = self.messages.saturating_add(1);
+        self.clock.now();
+        let mut sink = SocketSink::new(self.socket);
+        let refused = self.session.refuse_unreadable_to(&mut sink);
+        sent_or_end(refused, sink.failure)
+    }
+
+    // Sets the waiting flag. The session must check its queues afterwards, so that no entry is
+    // missed.
+    fn ask_to_be_woken(&self) {
+        if let Some(following) = self.wake_handle {
+            following.wait();
+        }
     }
 
     // Restarts the deadline after a complete message.
@@ -428,34 +458,6 @@ impl<'a, R: Wait + Drop, C: Clock + Drop, S: Read + Write + Drop> Client<'a, R, 
             Ok(()) => CloseAction::Refuse(texts),
             Err(_) => CloseAction::None,
         }
-    }
-
-    // Closes the session's queues, and returns the socket and the session's result.
-    fn finish(self, end: SessionEnd) -> (&'a mut WebSocket<DeadlineStream<S>, NoMask>, Served)
-        requires { IsPassOfBackend self.pass self.backend.now }
-        ensures pass { IsPassOfBackend result.1.pass self.entry.backend.now }
-        ensures number { pass_number result.1.pass ≡ pass_number self.entry.pass }
-    {
-        let Client {
-            alloc,
-            socket,
-            backend,
-            mut pass,
-            session,
-            messages,
-            operations,
-            ..
-        } = self;
-        let source = source_of(alloc, &session);
-        session.end(backend, &mut pass);
-        let served = Served {
-            pass,
-            end,
-            source,
-            messages,
-            operations,
-        };
-        (socket, served)
     }
 }
 

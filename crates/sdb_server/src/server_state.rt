@@ -41,7 +41,7 @@ const WRITE_TIMEOUT_MS: u64 = 10_000;
 /// The state that all connections of a server share: the documents, the projections, and the flags
 /// of the server's life cycle.
 #[derive(Drop)]
-pub struct ServerState<R: Wait> {
+pub struct ServerState<R> {
     pub(crate) backend: Backend<R>,
     table: Table,
     is_logging: bool,
@@ -77,7 +77,7 @@ pub(crate) enum HandshakeTask {
     Refuse,
 }
 
-impl<R: Wait + Drop> ServerState<R> {
+impl<R: Drop> ServerState<R> {
     /// Creates a server without clients, for the backend's documents as seen through the
     /// projections of the table.
     ///
@@ -139,7 +139,8 @@ impl<R: Wait + Drop> ServerState<R> {
         self.is_stopped.store(true, Ordering::SeqCst);
     }
 
-    /// Returns the backend, so that it can be closed after all sessions have ended.
+    /// Returns the backend, so that it can be closed after all sessions have ended. It doesn't wait
+    /// for them.
     pub fn into_backend(self) -> Backend<R>
         ensures { result ≡ self.backend }
     {
@@ -171,24 +172,6 @@ impl<R: Wait + Drop> ServerState<R> {
         self.is_crowded.store(is_crowded, Ordering::SeqCst);
     }
 
-    /// Makes all sessions end, and the accept loop start no more.
-    pub(crate) fn end(&self, rt: &R) {
-        self.is_ending.store(true, Ordering::SeqCst);
-        self.stop_admitting();
-        self.wake_registry.wake_all(rt);
-    }
-
-    /// Records that the thread is about to end.
-    pub(crate) fn record_end(&self, rt: &R, slot: Slot) {
-        // Can't fail: the list has capacity for all threads, and each thread is in it at most once.
-        let _ = self.ended.lock(rt).push(slot);
-    }
-
-    /// Returns a thread that is about to end, if there is one.
-    pub(crate) fn next_ended(&self, rt: &R) -> Option<Slot> {
-        self.ended.lock(rt).pop()
-    }
-
     /// Runs a handshake or a refusal. Returns the stream if its handshake is complete.
     pub(crate) fn receive(
         &self,
@@ -215,6 +198,26 @@ impl<R: Wait + Drop> ServerState<R> {
         } else {
             CloseCode::Again
         }
+    }
+}
+
+impl<R: Wait + Drop> ServerState<R> {
+    /// Makes all sessions end, and the accept loop start no more.
+    pub(crate) fn end(&self, rt: &R) {
+        self.is_ending.store(true, Ordering::SeqCst);
+        self.stop_admitting();
+        self.wake_registry.wake_all(rt);
+    }
+
+    /// Records that the thread is about to end.
+    pub(crate) fn record_end(&self, rt: &R, slot: Slot) {
+        // Can't fail: the list has capacity for all threads, and each thread is in it at most once.
+        let _ = self.ended.lock(rt).push(slot);
+    }
+
+    /// Returns a thread that is about to end, if there is one.
+    pub(crate) fn next_ended(&self, rt: &R) -> Option<Slot> {
+        self.ended.lock(rt).pop()
     }
 
     /// Serves a client after its handshake, in this slot and with the runtime's clock.

@@ -19,9 +19,9 @@ use std::time::Clock;
 
 /// The promise that the pass which a thread returns belongs to the backend.
 #[derive(Drop)]
-pub(crate) struct BackendPromise<R: Wait>(Snapshot<Backend<R>>);
+pub(crate) struct BackendPromise<R>(Snapshot<Backend<R>>);
 
-impl<R: Wait> Promise<Served> for BackendPromise<R> {
+impl<R> Promise<Served> for BackendPromise<R> {
     ghost use Rattle.sdb_backend.specs.PassModel.{IsPassOfBackend};
 
     ghost kept_by = { λ p served. IsPassOfBackend served.pass p.0.value };
@@ -29,7 +29,7 @@ impl<R: Wait> Promise<Served> for BackendPromise<R> {
 
 /// The threads that serve clients, each in its slot, and the passes that they returned.
 #[derive(Drop)]
-pub(crate) struct SessionThreads<R: Wait> {
+pub(crate) struct SessionThreads<R> {
     handles: Vec<Option<PromisedHandle<Served, BackendPromise<R>>>>,
     free: Vec<usize>,
     passes: Vec<Pass>,
@@ -39,7 +39,7 @@ pub(crate) struct SessionThreads<R: Wait> {
 
 /// The arguments of a new thread.
 #[derive(Drop)]
-pub(crate) struct ThreadSlot<R: Wait> {
+pub(crate) struct ThreadSlot<R> {
     slot: usize,
     state: Arc<ServerState<R>, Global>,
     stream: TcpStream,
@@ -47,7 +47,7 @@ pub(crate) struct ThreadSlot<R: Wait> {
     spare: TcpStream,
 }
 
-impl<R: Wait + Drop> SessionThreads<R> {
+impl<R: Drop> SessionThreads<R> {
     /// Creates an empty set of threads. Fails only if an allocation fails.
     pub(crate) fn new(alloc: Global, is_keeping: bool) -> Result<SessionThreads<R>, AllocError>
         ensures { IfOk result NoThreads }
@@ -132,7 +132,7 @@ impl<R: Wait + Drop> SessionThreads<R> {
     ) -> bool
     where
         R: Net<Listener = TcpListener, Stream = TcpStream>,
-        R: Threads + Clock + Copy + Send + Sync + 'static,
+        R: Threads + Wait + Clock + Copy + Send + Sync + 'static,
         requires pass { IsPassOfBackend pass thread_slot.state.value.backend }
         ensures backend { ThreadsOfBackend self.old thread_slot.state.value.backend
             → ThreadsOfBackend self.new thread_slot.state.value.backend }

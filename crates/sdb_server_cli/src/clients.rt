@@ -163,7 +163,7 @@ fn print_address<R: Print + Eprint>(
 }
 
 // Creates the state of the server, with a log if requested.
-fn server<R: Wait + Drop>(
+fn server<R: Drop>(
     alloc: Global,
     backend: Backend<R>,
     table: Table,
@@ -195,7 +195,7 @@ fn read_to_end<I: Read + Drop>(mut input: I) {
 ///
 /// [`AllocError`] if an allocation for the count of the documents fails. The
 /// [`io::Error`](std::io::Error) of printing a line.
-pub fn print_close<R: AllocGlobal + Print + Eprint, W: Wait + Drop>(
+pub fn print_close<R: AllocGlobal + Print + Eprint, W: Drop>(
     rt: &R,
     closed: Result<Audit, CloseRefused<W>>,
     is_dumping: bool,

@@ -59,7 +59,7 @@ fn close_with_one_document<R: Wait + Drop>(
 }
 
 // Returns the exit status, standard output and standard error.
-fn printed<R: Wait + Drop>(
+fn printed<R: Drop>(
     rt: &impl Abort,
     alloc: Global,
     closed: Result<Audit, CloseRefused<R>>,

@@ -50,7 +50,7 @@ const BADLY_FORMED: &str =
 
 // Creates the state of a server without projections, with this maximum wait of a session in
 // milliseconds.
-fn server<R: Wait + Drop>(
+fn server<R: Drop>(
     alloc: Global,
     backend: Backend<R>,
     is_logging: bool,
@@ -379,7 +379,7 @@ fn clients_are_served_over_sockets(rt: HostRuntime) {
 }
 
 // Stops a server with one silent client and one subscriber, without a wait for either.
-fn stop_server<R: Wait + Drop>(
+fn stop_server<R: Drop>(
     abort: &impl Abort,
     rt: HostRuntime,
     alloc: Global,

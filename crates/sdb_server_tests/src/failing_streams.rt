@@ -67,7 +67,7 @@ const CREATE: &str =
 const CREATED: &str = r#"{"a":"op","c":"b","d":"1","seq":1,"src":"x","v":0}"#;
 
 // Closes the backend with its host and both passes, and returns the audit.
-fn close_backend<R: Wait + Drop>(
+fn close_backend<R: Drop>(
     rt: &impl Abort,
     alloc: Global,
     backend: Backend<R>,

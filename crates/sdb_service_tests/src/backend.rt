@@ -46,14 +46,14 @@ fn submission_of_pass(
 
 // A backend with its host and two passes.
 #[derive(Drop)]
-struct TestBackend<R: Wait> {
+struct TestBackend<R> {
     backend: Backend<R>,
     host: Host,
     first: Pass,
     second: Pass,
 }
 
-fn open_backend<R: Wait + Drop>(abort: &impl Abort, alloc: Global, rt: R) -> TestBackend<R>
+fn open_backend<R: Drop>(abort: &impl Abort, alloc: Global, rt: R) -> TestBackend<R>
     ensures host { IsHostOfBackend result.host result.backend }
     ensures first { IsPassOfBackend result.first result.backend }
     ensures second { IsPassOfBackend result.second result.backend }
@@ -454,7 +454,7 @@ fn edits_of_two_threads_are_read_back(rt: HostRuntime) {
 }
 
 // Closes the backend, first without one of the passes, which is refused. Returns the audit.
-fn close_after_refusal<R: Wait + Drop>(
+fn close_after_refusal<R: Drop>(
     rt: &impl Abort,
     alloc: Global,
     backend: Backend<R>,
@@ -529,7 +529,7 @@ fn documents_of_all_shards_are_listed_in_order(rt: HostRuntime) {
 }
 
 // Enters the passes of the numbers from 1 on, without the end.
-fn enter_many<R: Wait + Drop>(rt: &impl Abort, backend: &Backend<R>, host: &mut Host, end: u64)
+fn enter_many<R: Drop>(rt: &impl Abort, backend: &Backend<R>, host: &mut Host, end: u64)
     requires { IsHostOfBackend host.old backend.now }
     ensures { IsHostOfBackend host.new backend.now }
 {
@@ -711,7 +711,7 @@ fn entries_of_two_threads_are_taken_in_order(rt: HostRuntime) {
 }
 
 // Closes the backend with its host and three passes, and returns the audit.
-fn close_with_three_passes<R: Wait + Drop>(
+fn close_with_three_passes<R: Drop>(
     rt: &impl Abort,
     alloc: Global,
     backend: Backend<R>,

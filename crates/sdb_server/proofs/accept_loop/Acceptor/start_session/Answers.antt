@@ -5,7 +5,7 @@ use Rattle.sdb_server.specs.ThreadModel.{ThreadsOfBackend}
 use Rattle.sdb_server.proofs.accept_loop.Acceptor.start_session.Goals as goal
 
 pub new_pass-requires-clause-host : goal.new_pass-requires-clause-host
-new_pass-requires-clause-host g c κs within = subst (λ s. IsHostOfServer c.args.host.now s) (sym c.deref.ensures) c.requires.host
+new_pass-requires-clause-host g c = subst (λ s. IsHostOfServer c.args.host.now s) (sym c.deref.ensures) c.requires.host
 
 pub start-requires-clause-pass : goal.start-requires-clause-pass
 start-requires-clause-pass g c κs within =
