@@ -3,7 +3,7 @@
 
 mod attempt;
 mod dispatch;
-mod laws;
+pub mod laws;
 mod read;
 mod runner;
 mod session;
@@ -16,11 +16,6 @@ mod world_dump;
 mod world_state;
 mod write_answer;
 
-pub use laws::{
-    logs_are_made, queues_take_all, reads_are_replays, repeats_are_answered, resent,
-    runs_are_legal, runs_begin, runs_go_on, snapshots_are_replays, stored_once,
-    submissions_are_placed, takes_continue, tries_stay_below_nine,
-};
 pub use read::read_step;
 pub use runner::{Ran, run, run_steps};
 pub use sdb_dump::{CheckedDump, DumpFault, check_dump};
