@@ -1,5 +1,6 @@
 -- The dump of the last world.
 use Rattle.std.proofs.Common.{◌≡◌, ◌≢◌, All, ℕ, ◌⊎◌, inl, inr, List, [], ◌∷◌, ◌++◌, map, Option, Result, Ok, Err, OnOk, IfOk, IsErrOf, refl, sym, ap, ◌∙◌, subst}
+use Rattle.std.proofs.lemmas.List.Elements.{All-nil, All-cons}
 use Rattle.std.specs.Io.KnownBytes.{Appends}
 use Rattle.std.proofs.KnownBytes.{Appends-nil, Appends-trans}
 use Rattle.sdb_lines.specs.Prefixes.{AppendsPrefix}
@@ -40,7 +41,7 @@ record RunWithoutAnswers (m : OneStep) (w : SessionStates) (readings : List (Res
 one_more : (r : Result PlainSessionStep Code) (m o n : OneStep) (w u v : SessionStates) (readings : List (Result PlainSessionStep Code)) (answer more text : List ℕ) → StepWithoutAnswer r m w answer o u → text ≡ answer ++ more → RunWithoutAnswers o u readings more n v → RunWithoutAnswers m w (r ∷ readings) text n v
 one_more (Ok s) m o n w u v readings answer more text (none, (a, some, step)) is t = record {
   answers = a ∷ t.answers;
-  allocated = (some, t.allocated);
+  allocated = All-cons (λ (x : PlainStepAnswer). x ≢ out_of_memory) a t.answers some t.allocated;
   steps = (o, u, step, t.steps);
   nothing = is ∙ ap (λ (b : List ℕ). b ++ more) none ∙ t.nothing;
 }
@@ -52,7 +53,7 @@ one_more (Err code) m o n w u v readings answer more text (none, same, kept) is 
 }
 
 run_without_answers : (s t : SilentRunner) (input : List (Option (List ℕ))) (text : List ℕ) → lines.Handles WorldTakesLine s input text t → RunWithoutAnswers (one_step_of_world s.world) (sessions_of s.world) (map reading_step input) text (one_step_of_world t.world) (sessions_of t.world)
-run_without_answers s t [] text h = record { answers = []; allocated = tt; steps = (ap (λ u. one_step_of_world u.world) h.1, ap (λ u. sessions_of u.world) h.1); nothing = h.0 }
+run_without_answers s t [] text h = record { answers = []; allocated = All-nil (λ (x : PlainStepAnswer). x ≢ out_of_memory); steps = (ap (λ u. one_step_of_world u.world) h.1, ap (λ u. sessions_of u.world) h.1); nothing = h.0 }
 run_without_answers s t (line ∷ input) text (answer, next, more, takes, rest, is) =
     one_more (reading_step line) (one_step_of_world s.world) (one_step_of_world next.world) (one_step_of_world t.world) (sessions_of s.world) (sessions_of next.world) (sessions_of t.world) (map reading_step input) answer more text takes is (run_without_answers next t input more rest)
 
