@@ -52,7 +52,9 @@ class Page(Tab):
     async def start(self, server, document):
         host, port = server.address
         await self.call("Page.navigate", url=address_of_page(f"{host}:{port}", document))
-        await self.until("document.readyState === 'complete' && typeof views === 'object' && views.every((it) => it.shared.data)")
+        await self.until("document.readyState === 'complete' && typeof views === 'object'")
+        # (until then a view may hold a document whose create is refused, as the other view created it)
+        await self.until("views.every((it) => it.shared.data && it.shared.version > 0 && it.shared.pending === 0)")
 
     async def until(self, condition):
         async def poll():
