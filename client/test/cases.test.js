@@ -6,13 +6,13 @@ import { Client } from '../src/index.js';
 import { bytesOf } from '../src/limits.js';
 import { Machine } from '../src/machine.js';
 import { flush } from './support/clock.js';
+import { OPTIONS } from './support/options.js';
 import {
   ADDRESS, SOON, absent, acknowledged, compared, holds, insert, loaded, namesOf, reconnected, refused, scripted,
   started, stored, storedCreate, storedDelete,
 } from './support/scripted.js';
 
 const NEWER = 'ERR_OP_VERSION_NEWER_THAN_CURRENT_SNAPSHOT';
-const OPTIONS = { timeout: 5000 };
 
 test('an own edit is shown at once, and stored when it is acknowledged', OPTIONS, () => {
   const { doc, socket } = loaded();

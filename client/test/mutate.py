@@ -25,9 +25,9 @@ PATIENCE = 30  # seconds for the tests of one change
 # The test files by the folder of the changed file, the one that detects the most first.
 TESTS = {
     "ot/": ["ot.test.js", "faults.test.js", "cases.test.js"],
-    "": ["cases.test.js", "connection.test.js", "fuzz.test.js", "faults.test.js", "ot.test.js"],
+    "": ["parts.test.js", "cases.test.js", "connection.test.js", "fuzz.test.js", "faults.test.js", "ot.test.js"],
 }
-FIXED = {"SEED": "7", "CASES": "1500", "RUNS": "6"}
+FIXED = {"SEED": "7", "CASES": "1500", "RUNS": "6", "TIMEOUT": "10000"}
 RULES = [
     (" <= ", " < "),
     (" < ", " <= "),
