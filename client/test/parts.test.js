@@ -3,7 +3,8 @@
 import assert from 'node:assert';
 import { test } from 'node:test';
 import { applyContent, crossContents, isComplete, isComposable } from '../src/content.js';
-import { LONGEST_COMPOSED, MOST_COMPOSED } from '../src/limits.js';
+import { spelled } from '../src/errors.js';
+import { LONGEST_COMPOSED, LONGEST_MESSAGE, MOST_COMPOSED, isName, isSendable } from '../src/limits.js';
 import { firstPart, withShortRemoved } from '../src/parts.js';
 import { OPTIONS } from './support/options.js';
 
@@ -54,6 +55,21 @@ test('an operation that just fits keeps its removed values', OPTIONS, () => {
   const size = Buffer.byteLength(JSON.stringify(operation));
   assert.strictEqual(withShortRemoved(operation, size), operation);
   assert.deepStrictEqual(withShortRemoved(operation, size - 1), [{ p: ['k'], od: null }]);
+});
+
+test('a message has at most 1,048,576 bytes, and a name 200', OPTIONS, () => {
+  const long = 'é'.repeat(LONGEST_MESSAGE / 2);
+  assert.deepStrictEqual([long, `${long}a`, `${long}é`].map(isSendable), [true, false, false]);
+  assert.deepStrictEqual(['', 'é'.repeat(100), `${'é'.repeat(100)}a`].map(isName), [false, true, false]);
+});
+
+test('a value of more than 60 characters is shortened in a message', OPTIONS, () => {
+  const circle = {};
+  circle.of = circle;
+  const spelt = [0, -0, NaN, 'a', null, undefined, circle].map(spelled);
+  assert.deepStrictEqual(spelt, ['0', '0', 'NaN', '"a"', 'null', 'undefined', '[object Object]']);
+  assert.strictEqual(spelled('x'.repeat(58)), `"${'x'.repeat(58)}"`);
+  assert.strictEqual(spelled('x'.repeat(59)), `"${'x'.repeat(56)}...`);
 });
 
 test('operations are composed up to 64 components and 65,536 characters', OPTIONS, () => {
