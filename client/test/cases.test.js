@@ -938,6 +938,22 @@ test('a document is dropped once all its requests are answered', OPTIONS, async 
   assert.strictEqual(doc.state, 'closed');
 });
 
+test('destroy ends if the connection is lost while a list is outstanding', OPTIONS, async () => {
+  const { doc, socket } = loaded();
+  const refusedList = assert.rejects(doc.operations(), { code: 'ERR_CLOSED' });
+  let isDone = false;
+  doc.destroy().then(() => (isDone = true));
+  await flush();
+  assert.deepStrictEqual(socket.taken().map(({ a }) => a), ['f', 'u']);
+  socket.answer({ a: 'u', ...ADDRESS });
+  await flush();
+  assert.strictEqual(isDone, false);
+  socket.close(1006);
+  await flush();
+  assert.strictEqual(isDone, true);
+  await refusedList;
+});
+
 test('a document that is requested while it is being destroyed stays', OPTIONS, async () => {
   const { client, doc, socket } = loaded();
   const leaving = doc.destroy();

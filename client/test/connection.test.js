@@ -345,6 +345,16 @@ test('an edit is waiting after two seconds, with a connection or without', OPTIO
   }
 });
 
+test('a document that is requested reports no waiting edit', OPTIONS, () => {
+  const { client: made } = client({ connect: false });
+  const doc = made.document('b', '1');
+  let told = 0;
+  doc.on('waiting', () => (told += 1));
+  doc.subscribe();
+  made.connect();
+  assert.strictEqual(told, 0);
+});
+
 test('an edit that is stored in time isn\'t waiting', OPTIONS, () => {
   const { clock, doc, socket } = loaded();
   let told = 0;

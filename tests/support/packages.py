@@ -42,5 +42,5 @@ def install(packages):
         return "that needs root and apt-get"
     fetch = ["install", "--download-only", *packages]
     if not apt(DOWNLOAD, *fetch) and not (apt(DOWNLOAD, "update") and apt(DOWNLOAD, *fetch)):
-        return f"they weren't downloaded within {DOWNLOAD} seconds"
+        return f"apt-get didn't download them (it has {DOWNLOAD} seconds)"
     return None if apt(UNPACK, "install", "--no-download", *packages) else "apt-get refused them"
