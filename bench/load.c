@@ -267,7 +267,7 @@ static void storm(void) {
 
 static void print_report(void) {
     printf("{\"scenario\":\"%s\",\"clients\":%d,\"documents\":%d,\"submitted\":%llu,\"processor\":%.3f,\"refusals\":%llu",
-           scenario_names[scenario], client_count, document_count, sent, processor_seconds(), refusals);
+           scenario_names[scenario], client_count, document_count, sent + document_count, processor_seconds(), refusals);
     print_times("acknowledged", &acknowledged);
     print_times("shown", &shown);
     print_times("late", &late);
