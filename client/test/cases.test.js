@@ -126,6 +126,18 @@ test('a fetched document replaces one that differs, at its own version', OPTIONS
   assert.deepStrictEqual(namesOf(events), ['refused', 'healed']);
 });
 
+test('a fetched document is compared with no operations of the next connection', OPTIONS, () => {
+  const all = loaded();
+  all.doc.submit(insert(0, '-'));
+  all.socket.answer(refused('op', 'ERR_LIMIT', { src: 'me', seq: 1 }));
+  all.socket.answer({ a: 'f', ...ADDRESS, data: { data: 'xabc', v: 4 } });
+  const next = reconnected(all);
+  compared(next);
+  next.answer(stored(3, insert(0, 'y')), { a: 's', ...ADDRESS });
+  holds(all.doc, 4, 'yabc');
+  assert.deepStrictEqual(namesOf(all.events), ['refused']);
+});
+
 test('without a subscription the operations up to a fetched document are requested', OPTIONS, () => {
   const { doc, events, socket } = started();
   doc.fetch();
