@@ -10,6 +10,7 @@ SERVER is the program of the server. It is started at a port of its own and stop
 import json
 import multiprocessing
 import pathlib
+import re
 import socket
 import sys
 import time
@@ -68,12 +69,12 @@ class Client:
         """Sends an operation and waits for its acknowledgement, after the operations of others."""
         self.seq += 1
         self.send({"a": "op", "c": "boards", "d": document, "src": self.source, "seq": self.seq, **content})
-        own = b'"seq":%d,"src":"%s"' % (self.seq, self.source.encode())
+        own = re.compile(rb'"seq":%d[,}]' % self.seq)
         while True:
             text = self.receive()
             if b'"error"' in text:
                 raise RuntimeError(text)
-            if own in text:
+            if own.search(text) and f'"src":"{self.source}"'.encode() in text:
                 return
 
 

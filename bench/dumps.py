@@ -65,7 +65,8 @@ def main(entries):
         size = os.path.getsize(dump)
     print(f"{entries} entries, {size} bytes: JSON pass {passed:.2f} s")
     print(f"steps answered {answered:.2f} s; with a dump at the end, and no answers, {dumped:.2f} s")
-    print(f"the dump checked {checked:.2f} s, {checked / passed:.1f} times the pass, {held * 1_024 / entries:.0f} bytes for each entry")
+    each = held * 1_024 / entries
+    print(f"the dump checked {checked:.2f} s, {checked / passed:.1f} times the pass, {each:.0f} bytes for each entry")
     for documents, edits in ((1, 100_000), (1_000, 100)):
         print_memory(documents, edits)
 

@@ -1,4 +1,4 @@
-"""Writes a create of one large text, list or object, and edits at random places of it, each with the current version as base version.
+"""Writes a create of one large text, list or object, and edits at random places of it, each at the current version.
 
 places.py KIND SIZE OPERATIONS, where KIND is text, list or object, and SIZE its characters, items or keys; a create has at most
 1,048,576 bytes, so some 50,000 items or keys. An edit inserts a character or an item, or sets one of twice as many keys."""

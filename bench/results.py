@@ -1,11 +1,13 @@
-"""Results of bench/run as JSON: each figure with the spread of its runs, the commit and the machine."""
+"""Results of bench/run, sockets and load as JSON: each figure with the spread of its runs, the commit and the machine."""
 import datetime
 import json
 import os
 import pathlib
 import platform
+import shlex
 import statistics
 import subprocess
+import sys
 
 ROOT = pathlib.Path(__file__).resolve().parent.parent
 FOLDER = ROOT / "bench" / "results"
@@ -26,6 +28,7 @@ class Results:
     def document(self):
         return {
             "commit": git("rev-parse", "HEAD"),
+            "command": shlex.join([os.path.relpath(sys.argv[0], ROOT), *sys.argv[1:]]),
             "changed": bool(git("status", "--porcelain", "--untracked-files=no")),
             "date": self.began.strftime("%Y-%m-%dT%H:%M:%SZ"),
             "machine": machine(),

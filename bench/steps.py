@@ -93,7 +93,8 @@ def write_lines(documents, is_named, out):
 def build(crate, *words):
     folder = os.path.join(CRATES, crate)
     with open(os.path.join(folder, "stdin"), "rb") as source:
-        built = subprocess.run(["rt", "run", "--", *words], cwd=folder, stdin=source, stdout=subprocess.PIPE, stderr=subprocess.STDOUT, text=True)
+        pipes = {"stdin": source, "stdout": subprocess.PIPE, "stderr": subprocess.STDOUT}
+        built = subprocess.run(["rt", "run", "--", *words], cwd=folder, text=True, **pipes)
     if built.returncode != 0:
         sys.exit(f"{built.stdout}{crate} was not built")
     return os.path.join(folder, "out", crate)

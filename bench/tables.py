@@ -1,5 +1,5 @@
 #!/usr/bin/env python3
-"""Writes Markdown tables from results of bench/run: bench/tables.py RESULT.json [RESULT.json]
+"""Writes Markdown tables from results of bench/run, bench/sockets or bench/load: bench/tables.py RESULT.json [RESULT.json]
 
 With one file: each figure with its least, middle and greatest run. With two files: the figures of both and their ratio.
 """
@@ -11,6 +11,7 @@ UNITS = {
     "s": (("s", 1), ("ms", 1e-3), ("us", 1e-6), ("ns", 1e-9)),
     "bytes": (("MB", 1e6), ("KB", 1e3), ("bytes", 1)),
     "ratio": (("", 1),),
+    "rate": (("each second", 1),),
 }
 
 
@@ -27,7 +28,7 @@ def header(results):
     changed = ", with changes" if results["changed"] else ""
     return (
         f"{results['date'][:10]}, commit {results['commit'][:8]}{changed}; {machine['processors']} x {machine['processor']}, "
-        f"governor {machine['governor'] or 'unknown'}, load {load['start']:.1f} to {load['end']:.1f}."
+        f"governor {machine['governor'] or 'unknown'}, load {load['start']:.1f} to {load['end']:.1f}. `{results['command']}`"
     )
 
 

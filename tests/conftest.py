@@ -1,4 +1,4 @@
-"""Options and fixtures of tests/protocol and tests/hostile. `tests/run` starts them."""
+"""Options and fixtures of the suites in pytest. `tests/run` starts them."""
 import pathlib
 import sys
 
@@ -12,6 +12,7 @@ from support.server import UNPROVED, Server, default_server  # noqa: E402
 def pytest_addoption(parser):
     parser.addoption("--server", default=default_server(), help="the program of the server")
     parser.addoption("--steps", help="the program of the steps")
+    parser.addoption("--edits", default="300", help="the number of edits of each client of tests/clients")
     parser.addoption("--seed", default="1", help="the seed of random edits and attacks")
 
 

@@ -30,10 +30,12 @@ AROUND = ("out of memory", "OutOfMemory", "AllocError", "AllocFailed")
 
 
 def lines_of(script, count):
-    return subprocess.run([sys.executable, os.path.join(HERE, "..", "bench", script), str(count)], stdout=subprocess.PIPE, check=True).stdout
+    command = [sys.executable, os.path.join(HERE, "..", "bench", script), str(count)]
+    return subprocess.run(command, stdout=subprocess.PIPE, check=True).stdout
 
 
-STORED = b"""{"a":"op","c":"b","d":"1","v":null,"src":"x","seq":1,"create":{"type":"http://sharejs.org/types/JSONv0","data":{"n":1}}}
+STORED = b"""{"a":"op","c":"b","d":"1","v":null,"src":"x","seq":1,"create":\
+{"type":"http://sharejs.org/types/JSONv0","data":{"n":1}}}
 {"a":"f","c":"b","d":"1"}
 """
 
@@ -117,7 +119,8 @@ def is_right(ended, whole, without_one, refusals):
 
 
 def report(name, count, inside, wrong):
-    print(f"{name}: {count} allocations failed in turn, {inside} of them inside the call, {len(wrong)} went wrong {wrong[:10] or ''}", flush=True)
+    print(f"{name}: {count} allocations failed in turn, {inside} of them inside the call, ", end="")
+    print(f"{len(wrong)} went wrong {wrong[:10] or ''}", flush=True)
     return not wrong and inside > 0
 
 
@@ -128,7 +131,8 @@ def program_is_right(refusals, name, program, given, refusal_answers=1):
     lines = given.splitlines(keepends=True)
     # the answers to the input without one of its lines, for each line
     without_one = {refusals.run(program, b"".join(lines[:at] + lines[at + 1 :])).stdout for at in range(len(lines))}
-    wrong = [nth for nth in range(1, count + 1) if not is_right(refusals.run(program, given, nth), whole.stdout, without_one, refusal_answers)]
+    runs = ((nth, refusals.run(program, given, nth)) for nth in range(1, count + 1))
+    wrong = [nth for nth, run in runs if not is_right(run, whole.stdout, without_one, refusal_answers)]
     return report(name, count, count, wrong)
 
 

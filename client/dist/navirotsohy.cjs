@@ -2288,7 +2288,6 @@ var Connection = class {
   connected() {
     this.tries = 0;
     this.state = "connected";
-    this.isAlive = true;
     this.setTimer(() => this.checkAlive(), this.heartbeat);
     for (const { text } of this.requests.values())
       this.send(text);

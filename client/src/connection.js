@@ -459,7 +459,6 @@ class Connection {
   connected() {
     this.tries = 0;
     this.state = 'connected';
-    this.isAlive = true;
     this.setTimer(() => this.checkAlive(), this.heartbeat);
     for (const { text } of this.requests.values()) this.send(text);
     // (a listener may disconnect, or ask for further documents, meanwhile)

@@ -6,13 +6,13 @@ import { Client } from '../src/index.js';
 import { bytesOf } from '../src/limits.js';
 import { Machine } from '../src/machine.js';
 import { flush } from './support/clock.js';
+import { OPTIONS } from './support/options.js';
 import {
   ADDRESS, SOON, absent, acknowledged, compared, holds, insert, loaded, namesOf, reconnected, refused, scripted,
   started, stored, storedCreate, storedDelete,
 } from './support/scripted.js';
 
 const NEWER = 'ERR_OP_VERSION_NEWER_THAN_CURRENT_SNAPSHOT';
-const OPTIONS = { timeout: 5000 };
 
 test('an own edit is shown at once, and stored when it is acknowledged', OPTIONS, () => {
   const { doc, socket } = loaded();
@@ -124,6 +124,18 @@ test('a fetched document replaces one that differs, at its own version', OPTIONS
   socket.answer({ a: 'f', ...ADDRESS, data: { data: 'right', v: 3 } });
   assert.deepStrictEqual([doc.confirmed, doc.data], ['right', 'right!']);
   assert.deepStrictEqual(namesOf(events), ['refused', 'healed']);
+});
+
+test('a fetched document is compared with no operations of the next connection', OPTIONS, () => {
+  const all = loaded();
+  all.doc.submit(insert(0, '-'));
+  all.socket.answer(refused('op', 'ERR_LIMIT', { src: 'me', seq: 1 }));
+  all.socket.answer({ a: 'f', ...ADDRESS, data: { data: 'xabc', v: 4 } });
+  const next = reconnected(all);
+  compared(next);
+  next.answer(stored(3, insert(0, 'y')), { a: 's', ...ADDRESS });
+  holds(all.doc, 4, 'yabc');
+  assert.deepStrictEqual(namesOf(all.events), ['refused']);
 });
 
 test('without a subscription the operations up to a fetched document are requested', OPTIONS, () => {
@@ -936,6 +948,22 @@ test('a document is dropped once all its requests are answered', OPTIONS, async 
   socket.answer({ a: 'f', ...ADDRESS });
   await leaving;
   assert.strictEqual(doc.state, 'closed');
+});
+
+test('destroy ends if the connection is lost while a list is outstanding', OPTIONS, async () => {
+  const { doc, socket } = loaded();
+  const refusedList = assert.rejects(doc.operations(), { code: 'ERR_CLOSED' });
+  let isDone = false;
+  doc.destroy().then(() => (isDone = true));
+  await flush();
+  assert.deepStrictEqual(socket.taken().map(({ a }) => a), ['f', 'u']);
+  socket.answer({ a: 'u', ...ADDRESS });
+  await flush();
+  assert.strictEqual(isDone, false);
+  socket.close(1006);
+  await flush();
+  assert.strictEqual(isDone, true);
+  await refusedList;
 });
 
 test('a document that is requested while it is being destroyed stays', OPTIONS, async () => {

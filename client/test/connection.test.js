@@ -4,9 +4,9 @@ import assert from 'node:assert';
 import { test } from 'node:test';
 import { Client } from '../src/index.js';
 import { ManualClock, flush } from './support/clock.js';
+import { OPTIONS } from './support/options.js';
 import { ADDRESS, SOON, acknowledged, compared, holds, insert, loaded, reconnected, scripted, started } from './support/scripted.js';
 
-const OPTIONS = { timeout: 5000 };
 const HANDSHAKE = { a: 'hs', id: 'me', protocol: 1 };
 
 function client(options = {}) {
@@ -247,6 +247,8 @@ test('messages that name no document, or none of this client, change nothing', O
   sockets.last().open();
   sockets.last().answer({}, { a: null }, { a: 'op', c: 'x', d: 'y', v: 0, src: 'o', seq: 1, del: true }, { a: 'init', id: 's9' });
   sockets.last().answer({ a: 'x', error: { code: 'ERR_MESSAGE_BADLY_FORMED', message: 'no' } });
+  // the answer to a sign of life, which is requested again in any case
+  sockets.last().answer({ a: 'hs', error: { code: 'ERR_OUT_OF_MEMORY', message: 'no' } });
   assert.deepStrictEqual([made.state, errors], ['connected', [['ERR_MESSAGE_BADLY_FORMED', 'no']]]);
 });
 
@@ -341,6 +343,16 @@ test('an edit is waiting after two seconds, with a connection or without', OPTIO
     }
     assert.deepStrictEqual(told.slice(1), [[false, 7000, false, false]]);
   }
+});
+
+test('a document that is requested reports no waiting edit', OPTIONS, () => {
+  const { client: made } = client({ connect: false });
+  const doc = made.document('b', '1');
+  let told = 0;
+  doc.on('waiting', () => (told += 1));
+  doc.subscribe();
+  made.connect();
+  assert.strictEqual(told, 0);
 });
 
 test('an edit that is stored in time isn\'t waiting', OPTIONS, () => {

@@ -3,13 +3,12 @@
 import assert from 'node:assert';
 import { test } from 'node:test';
 import { Client, apply } from '../src/index.js';
+import { OPTIONS } from './support/options.js';
 import { ManualClock, flush } from './support/clock.js';
 import { Net } from './support/net.js';
 import {
   ADDRESS, acknowledged, compared, holds, insert, loaded, namesOf, reconnected, refused, scripted, started, stored,
 } from './support/scripted.js';
-
-const OPTIONS = { timeout: 10000 };
 
 // Returns two subscribed clients of a document.
 async function pair(data) {
@@ -448,7 +447,7 @@ test('a refused paste changes nothing, and the next letter is stored', OPTIONS, 
   holds(doc, 4, 'abcd');
 });
 
-test('3,000 edits that were made offline and 300 of others are merged in three seconds', { timeout: 30000 }, async () => {
+test('3,000 edits that were made offline and 300 of others are merged in three seconds', OPTIONS, async () => {
   const { clock, client, doc, socket, sockets } = loaded({ l: [] });
   socket.taken();
   client.disconnect();

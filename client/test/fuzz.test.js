@@ -11,12 +11,12 @@ import { isDeepStrictEqual } from 'node:util';
 import { apply, cross, invert, textChange } from '../src/index.js';
 import { Net } from './support/net.js';
 import { flush } from './support/clock.js';
+import { OPTIONS } from './support/options.js';
 import { choices, seedOf } from './support/random.js';
 
 const RUNS = Number(process.env.RUNS || 12);
 const STEPS = 250;
 const CLIENTS = 3;
-const OPTIONS = { timeout: 60000 };
 const START = () => ({ t: '', l: [], o: {}, n: 0, far: Number.MAX_SAFE_INTEGER - 3 });
 
 // Edits --------------------------------------------------------------------------------------------------------

@@ -25,14 +25,32 @@ PATIENCE = 30  # seconds for the tests of one change
 # The test files by the folder of the changed file, the one that detects the most first.
 TESTS = {
     "ot/": ["ot.test.js", "faults.test.js", "cases.test.js"],
-    "": ["cases.test.js", "connection.test.js", "fuzz.test.js", "faults.test.js", "ot.test.js"],
+    "": ["parts.test.js", "cases.test.js", "connection.test.js", "fuzz.test.js", "faults.test.js", "ot.test.js"],
 }
-FIXED = {"SEED": "7", "CASES": "1500", "RUNS": "6"}
+FIXED = {"SEED": "7", "CASES": "1500", "RUNS": "6", "TIMEOUT": "10000"}
 RULES = [
-    (" <= ", " < "), (" < ", " <= "), (" >= ", " > "), (" > ", " >= "), (" === ", " !== "), (" !== ", " === "),
-    (" + 1", ""), (" - 1", ""), (" + ", " - "), (" - ", " + "), (" && ", " || "), (" || ", " && "),
-    ("LEFT", "RIGHT"), ("RIGHT", "LEFT"), ("? [] :", "? [component] :"), ("true", "false"), ("false", "true"),
-    ("Math.max", "Math.min"), ("Math.min", "Math.max"), (".shift()", ".pop()"), (".unshift(", ".push("), ("if (!", "if ("),
+    (" <= ", " < "),
+    (" < ", " <= "),
+    (" >= ", " > "),
+    (" > ", " >= "),
+    (" === ", " !== "),
+    (" !== ", " === "),
+    (" + 1", ""),
+    (" - 1", ""),
+    (" + ", " - "),
+    (" - ", " + "),
+    (" && ", " || "),
+    (" || ", " && "),
+    ("LEFT", "RIGHT"),
+    ("RIGHT", "LEFT"),
+    ("? [] :", "? [component] :"),
+    ("true", "false"),
+    ("false", "true"),
+    ("Math.max", "Math.min"),
+    ("Math.min", "Math.max"),
+    (".shift()", ".pop()"),
+    (".unshift(", ".push("),
+    ("if (!", "if ("),
 ]
 STATEMENT = re.compile(
     r"^\s+((this|machine|core|record|state|last|carets)\.[\w.]+ (=|\+=|-=) .*;|this\.[\w.]+\(.*\);|settle\(\);"
@@ -57,7 +75,7 @@ def changes(lines):
             for found in re.finditer(re.escape(old), code):
                 if "'" in code and code[: found.start()].count("'") % 2:
                     continue
-                changed = line[: found.start()] + new + line[found.end():]
+                changed = line[: found.start()] + new + line[found.end() :]
                 yield number, changed, f"`{old.strip()}` becomes `{new.strip() or 'nothing'}`"
         if STATEMENT.match(line):
             yield number, ";", "the statement is removed"
@@ -71,7 +89,11 @@ def detected(folder, file):
     for name in TESTS["ot/" if file.startswith("ot/") else ""]:
         command = ["node", "--test", f"client/test/{name}"]
         process = subprocess.Popen(
-            command, cwd=folder, env={**os.environ, **FIXED}, stdout=subprocess.DEVNULL, stderr=subprocess.DEVNULL,
+            command,
+            cwd=folder,
+            env={**os.environ, **FIXED},
+            stdout=subprocess.DEVNULL,
+            stderr=subprocess.DEVNULL,
             start_new_session=True,
         )
         try:
@@ -119,7 +141,7 @@ def main():
                 if given.list:
                     print(place)
                     continue
-                path.write_text("\n".join([*lines[:number], text, *lines[number + 1:]]))
+                path.write_text("\n".join([*lines[:number], text, *lines[number + 1 :]]))
                 counts[file, "made"] += 1
                 if detected(target, file):
                     counts[file, "detected"] += 1

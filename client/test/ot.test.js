@@ -9,11 +9,11 @@ import { apply, complete, compose, cross, invert, textChange, transformComponent
 import { firstPart, withShortRemoved } from '../src/parts.js';
 import { randomDocuments } from './support/documents.js';
 import * as model from './support/model.js';
+import { OPTIONS } from './support/options.js';
 import { seedOf } from './support/random.js';
 import { insert } from './support/scripted.js';
 
 const CASES = Number(process.env.CASES || 6000);
-const OPTIONS = { timeout: 60000 };
 
 // Returns the result, or the code of a refusal.
 function tried(action) {

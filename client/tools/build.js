@@ -4,7 +4,8 @@
  *     node client/tools/build.js            writes the files
  *     node client/tools/build.js --check    the status is 1 if a file isn't current
  *
- * Needs esbuild and tsc (Debian: esbuild, node-typescript). The check skips what it has no program for, with a message.
+ * Needs esbuild and tsc of Debian 12 (esbuild, node-typescript). Other versions write other texts, so the check skips
+ * the output of another version or of a missing program, with a message.
  */
 
 import { spawnSync } from 'node:child_process';
@@ -17,6 +18,8 @@ const CLIENT = path.dirname(path.dirname(fileURLToPath(import.meta.url)));
 const ROOT = path.dirname(CLIENT);
 const { version } = JSON.parse(fs.readFileSync(path.join(ROOT, 'package.json'), 'utf8'));
 const BANNER = `/* Navirotsohy ${version}, MIT license. Built from client/src by client/tools/build.js: don't edit. */`;
+
+const VERSIONS = { esbuild: '0.17.0', tsc: 'Version 4.8.4' };
 
 function run(command, args) {
   const ran = spawnSync(command, args, { cwd: CLIENT, encoding: 'utf8' });
@@ -74,15 +77,20 @@ function differences(folder, isOfType) {
   return [...names].filter((name) => isOfType(name) && read(folder, name) !== read(dist, name));
 }
 
+function isComparable(command) {
+  const version = run(command, ['--version']);
+  if (version !== null && version.trim() === VERSIONS[command]) return true;
+  console.log(`build: the output of ${command} was not checked: ${version === null ? 'it is missing' : 'another version'}`);
+  return false;
+}
+
 function check() {
   const folder = fs.mkdtempSync(path.join(os.tmpdir(), 'navirotsohy-'));
   try {
     const isTypes = (name) => name.startsWith('types');
     const wrong = [];
-    if (buildScripts(folder)) wrong.push(...differences(folder, (name) => !isTypes(name)));
-    else console.log('build: the scripts were not checked, as there is no esbuild');
-    if (buildTypes(folder)) wrong.push(...differences(folder, isTypes));
-    else console.log('build: the types were not checked, as there is no tsc');
+    if (isComparable('esbuild') && buildScripts(folder)) wrong.push(...differences(folder, (name) => !isTypes(name)));
+    if (isComparable('tsc') && buildTypes(folder)) wrong.push(...differences(folder, isTypes));
     for (const name of wrong) console.log(`build: client/dist/${name} is not current: run node client/tools/build.js`);
     return wrong.length === 0;
   } finally {

@@ -29,6 +29,7 @@ PIECES = ["a", "bc", "😀", "word ", "\n", "é", "漢字", "🎉🎉"]
 
 # Texts: offsets count UTF-16 units ------------------------------------------------------------------------------------
 
+
 def units(text):
     return len(text.encode("utf-16-le")) // 2
 
@@ -40,6 +41,7 @@ def split(text, at):
 
 
 # Operations -----------------------------------------------------------------------------------------------------------
+
 
 # Returns the text with the component's text inserted or deleted.
 def edited(text, component, offset):
@@ -78,6 +80,7 @@ def apply_component(holder, component):
 
 
 # Edits ----------------------------------------------------------------------------------------------------------------
+
 
 # Returns an offset, often at the start or the end, where others write concurrently.
 def text_edit(path, text, most):
@@ -157,6 +160,7 @@ def random_edit(data):
 
 
 # The client -----------------------------------------------------------------------------------------------------------
+
 
 class Client:
     def __init__(self, socket, document):
@@ -239,6 +243,7 @@ class Client:
 
 
 # The end --------------------------------------------------------------------------------------------------------------
+
 
 # Returns the version and the document over a new connection, and the document at some versions.
 async def fetch(address, document, versions):

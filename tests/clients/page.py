@@ -44,6 +44,7 @@ def address_of_page(server, document):
 
 # The browser ----------------------------------------------------------------------------------------------------------
 
+
 @contextlib.asynccontextmanager
 async def browser(*options):
     folder = tempfile.mkdtemp(prefix="page-")
@@ -94,7 +95,6 @@ class Tab:
         while not await self.evaluate("document.readyState === 'complete' && typeof views === 'object'"):
             await asyncio.sleep(0.05)
         await self.evaluate((HERE / "page_edits.js").read_text())
-
 
     async def press(self, key, code=0, alt=False):
         parameters = {"key": key, "code": key, "windowsVirtualKeyCode": code, "modifiers": 1 if alt else 0}
@@ -163,6 +163,7 @@ async def faults_on_narrow(tab, width=320):
 
 
 # As a module ---------------------------------------------------------------------------------------------------------
+
 
 class Quiet(http.server.SimpleHTTPRequestHandler):
     extensions_map = {".mjs": "text/javascript", ".js": "text/javascript", ".html": "text/html", "": "text/plain"}

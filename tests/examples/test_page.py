@@ -10,6 +10,7 @@ import sys
 import pytest
 
 from support.dialogue import ROOT
+from support.tls import https
 
 pytest.importorskip("websockets")
 import websockets  # noqa: E402
@@ -51,8 +52,13 @@ class Page(Tab):
 
     async def start(self, server, document):
         host, port = server.address
-        await self.call("Page.navigate", url=address_of_page(f"{host}:{port}", document))
-        await self.until("document.readyState === 'complete' && typeof views === 'object' && views.every((it) => it.shared.data)")
+        await self.open_at(address_of_page(f"{host}:{port}", document))
+
+    async def open_at(self, address):
+        await self.call("Page.navigate", url=address)
+        await self.until("document.readyState === 'complete' && typeof views === 'object'")
+        # (until then a view may hold a document whose create is refused, as the other view created it)
+        await self.until("views.every((it) => it.shared.data && it.shared.version > 0 && it.shared.pending === 0)")
 
     async def until(self, condition):
         async def poll():
@@ -139,6 +145,23 @@ def test_slider_counts_versions(server):
         return await page.evaluate("document.querySelector('.life output').textContent")
 
     assert in_page(server, "slider", play) == "version 2 of 5"
+
+
+@pytest.mark.skipif(not shutil.which("openssl"), reason="needs openssl")
+def test_page_over_https(server):
+    """The page connects by wss to /documents of its host."""
+
+    async def run():
+        options = ["--ignore-certificate-errors"]
+        async with https(ROOT, server.address) as port, browser(*options) as address:
+            async with websockets.connect(address, max_size=None) as socket:
+                page = Page(socket)
+                await page.open_at(f"https://127.0.0.1:{port}/examples/index.html?document=https")
+                await page.evaluate("views[0].shared.submit([{ p: ['text', 0], si: 'by wss ' }]).then(() => 1)")
+                await page.until("views[1].find('textarea').value.startsWith('by wss ')")
+                return await page.evaluate("views[0].client.address") == f"wss://127.0.0.1:{port}/documents"
+
+    assert asyncio.run(run())
 
 
 def test_server_that_ends(server):

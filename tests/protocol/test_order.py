@@ -56,18 +56,20 @@ def test_acknowledgement_of_a_duplicate_comes_before_missed_operations(server):
         assert kinds([new.message() for _ in range(3)]) == [1, 2, "f"]
 
 
-def test_own_operation_is_in_a_list_and_not_in_a_subscription(server):
+def test_own_operation_is_one_of_this_connection(server):
+    """A subscription has what another connection of the same source submitted. A list has own operations too."""
     with server.enter() as old, server.enter() as new, server.enter() as other:
         for connection in (old, new):
             connection.ask({"a": "hs", "id": "x"})
         create(other)
         new.ask({"a": "s", **PLACE})
         old.ask(add("x", 1))
+        assert kinds([new.message(), new.ask(add("x", 2))]) == [1, ("ack", 2)]
         other.ask(add("y", 1))
-        assert kinds([new.message()]) == [2]
+        assert kinds([new.message()]) == [3]
         assert kinds([new.ask(add("x", 1, v=1))]) == [("ack", 1)]
         new.send(text({"a": "s", **PLACE, "v": 1}))
-        assert kinds([new.message() for _ in range(3)]) == [1, 2, "s"]
+        assert kinds([new.message() for _ in range(4)]) == [1, 2, 3, "s"]
 
 
 def test_numbers_are_per_document_and_may_have_gaps(server):

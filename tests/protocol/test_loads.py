@@ -1,0 +1,39 @@
+"""The load generators of bench, for a moment each: they fail if an operation isn't stored exactly once."""
+import json
+import shutil
+import subprocess
+import sys
+
+import pytest
+from support.dialogue import ROOT
+
+sys.path.insert(0, str(ROOT / "bench"))
+from programs import build_clients  # noqa: E402
+
+pytestmark = pytest.mark.skipif(not shutil.which("cc"), reason="needs a C compiler")
+
+CLIENTS, SECONDS, PATIENCE = "3", "0.3", 120
+
+
+def figures(tmp_path, server, name, mode, *more):
+    command = [build_clients(str(tmp_path), name), mode, str(server.address[1]), "-c", CLIENTS, "-s", SECONDS, *more]
+    ran = subprocess.run(command, capture_output=True, text=True, timeout=PATIENCE)
+    assert ran.returncode == 0, ran.stderr
+    return json.loads(ran.stdout)
+
+
+@pytest.mark.parametrize("mode", ["own", "one", "subscribed", "fan", "shards", "shard"])
+def test_closed_loop(tmp_path, server, mode):
+    assert figures(tmp_path, server, "sockets", mode, "-n", "60")["acknowledged"]["count"] > 0
+
+
+@pytest.mark.parametrize("scenario, latencies", [("count", 1), ("documents", 1), ("text", 2), ("board", 2)])
+def test_fixed_rate(tmp_path, server, scenario, latencies):
+    documents = ["-d", "7"] if scenario == "documents" else []
+    found = figures(tmp_path, server, "load", scenario, "-r", "100", *documents)
+    assert [found[it]["count"] for it in ("acknowledged", "shown") if it in found] == [31, 62][:latencies]
+
+
+def test_storm(tmp_path, server):
+    found = figures(tmp_path, server, "load", "storm")
+    assert found["client"]["count"] == 3 * found["all"]["count"] > 0
