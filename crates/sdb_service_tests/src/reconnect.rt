@@ -65,29 +65,29 @@ fn an_entry_of_an_earlier_connection_is_sent(rt: HostRuntime) {
     let mut second = backend.enter(&mut host).expect(&rt, "a pass");
     let mut earlier = new_session(&rt, alloc, "s1");
     let mut later = new_session(&rt, alloc, "s1");
-    assert!(rt;
-        answers(
-            alloc,
-            &backend,
-            &mut first,
-            &mut earlier,
-            SUBSCRIBE,
-            SUBSCRIBED
-        ) && answers(
-            alloc,
-            &backend,
-            &mut second,
-            &mut later,
-            SUBSCRIBE,
-            SUBSCRIBED
-        ) && answers(alloc, &backend, &mut first, &mut earlier, CREATE, CREATED)
+    let is_first_subscribed = answers(
+        alloc,
+        &backend,
+        &mut first,
+        &mut earlier,
+        SUBSCRIBE,
+        SUBSCRIBED,
     );
+    let is_second_subscribed = answers(
+        alloc,
+        &backend,
+        &mut second,
+        &mut later,
+        SUBSCRIBE,
+        SUBSCRIBED,
+    );
+    let is_created = answers(alloc, &backend, &mut first, &mut earlier, CREATE, CREATED);
+    assert!(rt; is_first_subscribed && is_second_subscribed && is_created);
     let sent = pumped(&rt, alloc, &backend, &mut second, &mut later);
     assert!(rt; matches!(sent.as_slice(), [only] if only.as_str() == OP_MESSAGE));
     assert!(rt; pumped(&rt, alloc, &backend, &mut first, &mut earlier).is_empty());
     // a duplicate is acknowledged to both
-    assert!(rt;
-        answers(alloc, &backend, &mut second, &mut later, CREATE, CREATED)
-            && answers(alloc, &backend, &mut first, &mut earlier, CREATE, CREATED)
-    );
+    let is_second_repeated = answers(alloc, &backend, &mut second, &mut later, CREATE, CREATED);
+    let is_first_repeated = answers(alloc, &backend, &mut first, &mut earlier, CREATE, CREATED);
+    assert!(rt; is_second_repeated && is_first_repeated);
 }
