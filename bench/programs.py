@@ -36,8 +36,7 @@ class Running:
 
     def __init__(self, clients, *command):
         self.clients = clients
-        how = {"env": {"GLIBC_TUNABLES": "glibc.malloc.mxfast=0", **os.environ}, "stdout": subprocess.PIPE, "text": True}
-        self.process = subprocess.Popen([*command, "127.0.0.1:0"], **how)  # as ./serve starts the server
+        self.process = subprocess.Popen([*command, "127.0.0.1:0"], stdout=subprocess.PIPE, text=True)
         said = self.process.stdout.readline()
         if not said.startswith("listening "):
             self.__exit__()

@@ -33,7 +33,6 @@ class Results:
             "date": self.began.strftime("%Y-%m-%dT%H:%M:%SZ"),
             "machine": machine(),
             "load": {"start": self.load_at_start, "end": os.getloadavg()[0]},
-            "environment": {it: os.environ.get(it) for it in ("GLIBC_TUNABLES",)},
             "figures": self.figures,
         }
 
