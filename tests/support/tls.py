@@ -9,7 +9,7 @@ import tempfile
 
 
 def context(folder):
-    """Returns a TLS context with a certificate of its own, which a browser has to be told to accept."""
+    """Returns a TLS context with a self-signed certificate, which a browser accepts only by an option."""
     key, certificate = f"{folder}/key.pem", f"{folder}/certificate.pem"
     command = ["openssl", "req", "-x509", "-newkey", "rsa:2048", "-nodes", "-days", "1", "-subj", "/CN=127.0.0.1"]
     subprocess.run([*command, "-keyout", key, "-out", certificate], check=True, capture_output=True)
