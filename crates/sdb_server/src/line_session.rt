@@ -18,6 +18,7 @@ use sdb_projection::Table;
 use sdb_session::Session;
 use sdb_submit::Solo;
 use std::alloc::{AllocError, Global};
+use std::mem::forget;
 
 // The session's source.
 const SOURCE: &str = "s1";
@@ -131,6 +132,44 @@ pub fn run_lines<C: Clock + Drop, R: Source, W: Sink>(
         session: new_session(alloc)?,
     };
     run(alloc, &mut line_session, reader, writer)
+}
+
+/// Runs as [`run_lines`], for a program that exits afterwards: the documents are leaked instead of
+/// freed entry by entry.
+///
+/// # Errors
+///
+/// As [`run_lines`].
+pub fn run_lines_at_exit<C: Clock + Drop, R: Source, W: Sink>(
+    alloc: Global,
+    table: &Table,
+    clock: C,
+    reader: &mut R,
+    writer: &mut W,
+) -> Result<Counts, RunFault>
+    ensures wrote_all { OnOk result (IfSome (R.remaining_input reader.old) (λ input. WroteSession table.now
+        (C.remaining_moments clock)
+        (map readable_text (lines_of input)) (W.bytes_written writer.old) (W.bytes_written writer.new))) }
+    ensures counts { IfOk result (λ counts. IfSome (R.remaining_input reader.old)
+        (λ input. AreCountsOf is_request input counts)) }
+    // After a fault, a prefix of the opening and the answers was written.
+    ensures prefix_on_err { OnErr result (IfSome (R.remaining_input reader.old) (λ input. WroteSessionPrefix table.now
+        (C.remaining_moments clock)
+        (map readable_text (lines_of input)) (W.bytes_written writer.old) (W.bytes_written writer.new))) }
+    // No read, write or flush failed, except the one that is the fault.
+    ensures read_failures { ReadFaultIsCounted result (R.calls reader.old) (R.failures reader.old)
+        (R.calls reader.new) (R.failures reader.new) }
+    ensures write_failures { WriteFaultIsCounted result (W.failures writer.old) (W.failures writer.new) }
+{
+    let mut leaked_session = LineSession {
+        table,
+        clock,
+        shard: Shard::new(alloc),
+        session: new_session(alloc)?,
+    };
+    let counts = run(alloc, &mut leaked_session, reader, writer);
+    forget(leaked_session);
+    counts
 }
 
 // Creates the session.

@@ -6,7 +6,7 @@ use clap::{Arg, ArgAction, ArgGroup, ArgMatches, Command, Error};
 use sdb_cli::{STATUS_OK, exit_status, print_help_or_error, print_refusal};
 use sdb_lines::{CountingReader, CountingWriter};
 use sdb_projection::{Table, TableFault};
-use sdb_server::{SystemClock, run_lines};
+use sdb_server::{SystemClock, run_lines_at_exit};
 use std::alloc::{AllocError, Global};
 use std::io;
 use std::io::{Read, StdinLock};
@@ -260,7 +260,7 @@ where
 {
     let mut reader = CountingReader::new(input);
     let mut writer = CountingWriter::new(io::writer(rt));
-    match run_lines(rt.alloc(), table, clock, &mut reader, &mut writer) {
+    match run_lines_at_exit(rt.alloc(), table, clock, &mut reader, &mut writer) {
         Ok(_) => STATUS_OK,
         Err(fault) => exit_status(rt, fault),
     }

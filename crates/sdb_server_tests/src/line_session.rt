@@ -3,7 +3,7 @@
 use sdb_lines::{CountingReader, CountingWriter, RunFault};
 use sdb_oplog::Moment;
 use sdb_projection::Table;
-use sdb_server::{ListClock, run_lines};
+use sdb_server::{ListClock, run_lines, run_lines_at_exit};
 use std::alloc::Global;
 use std::io;
 use std::io::{ErrorKind, Read, Write};
@@ -120,6 +120,15 @@ fn output_of(alloc: Global, clock: ListClock, lines: &str) -> Vec<u8> {
     let mut writer = CountingWriter::new(Vec::new(alloc));
     let _ = run_lines(alloc, &Table::new(alloc), clock, &mut reader, &mut writer);
     writer.stream
+}
+
+#[test]
+fn run_lines_at_exit_writes_the_same(rt: HostRuntime) {
+    let mut reader = CountingReader::new(FETCH.as_bytes());
+    let mut writer = CountingWriter::new(Vec::new(rt.alloc()));
+    let (table, clock) = (Table::new(rt.alloc()), ListClock::new(Vec::new(rt.alloc())));
+    let outcome = run_lines_at_exit(rt.alloc(), &table, clock, &mut reader, &mut writer);
+    assert!(rt; outcome.is_ok() && writer.stream.as_slice() == COMPLETE_OUTPUT.as_bytes());
 }
 
 #[test]
