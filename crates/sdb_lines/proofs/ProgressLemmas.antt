@@ -1,12 +1,12 @@
 -- The progress of a run, and its end from there.
-use Rattle.std.proofs.Common.{◌≡◌, ℕ, Bool, List, [], ◌++◌, Some, None, map, length, refl, ap, sym, ◌∙◌, subst, append_assoc, append-nil, arith, IfSome}
+use Rattle.std.proofs.Common.{◌≡◌, ℕ, Bool, List, [], ◌++◌, Some, None, map, refl, ap, sym, ◌∙◌, subst, append_assoc, append-nil, arith, IfSome}
 use Rattle.std.specs.declared.option.Option.{Option}
 use Rattle.std.specs.Io.KnownBytes.{Appends, Consumes, IsAtEnd}
 use Rattle.std.proofs.KnownBytes.{Consumes-trans, Consumes-whole}
 use Rattle.std.proofs.lemmas.List.{length-map}
 use Rattle.sdb_lines.specs.Lines.{readable_lines_from, readable_text, lines_of}
 use Rattle.sdb_lines.specs.Chunks.{lines_ended_by, partial_line_after, kept_prefix}
-use Rattle.sdb_lines.specs.Counts.{counts_after, step_count, AreCountsOf}
+use Rattle.sdb_lines.specs.Counts.{counts_after, AreCountsOf}
 use Rattle.sdb_lines.specs.Prefixes.{AppendsPrefix}
 use Rattle.sdb_lines.specs.Runs.{AppendsAnswers, AppendsAnswerPrefix}
 use Rattle.sdb_lines.specs.declared.runner.Counts.{Counts}

@@ -29,7 +29,7 @@ prefix-append a b c (after, e) = (after ++ c, ap (λ l. l ++ c) e ∙ append_ass
 pub AppendsFront-more : (a b : Option (List ℕ)) (all more : List ℕ) → AppendsPrefix a b all → AppendsPrefix a b (all ++ more)
 AppendsFront-more a b all more (bytes, w, f) = (bytes, w, prefix-append bytes all more f)
 
-AppendsFront-on : (a b c : Option (List ℕ)) (written all : List ℕ) → Appends a b written → AppendsPrefix b c all → AppendsPrefix a c (written ++ all)
+pub AppendsFront-on : (a b c : Option (List ℕ)) (written all : List ℕ) → Appends a b written → AppendsPrefix b c all → AppendsPrefix a c (written ++ all)
 AppendsFront-on a b c written all w (bytes, v, f) = (written ++ bytes, Appends-trans a b c written bytes w v, prefix-trans written bytes all f)
 
 -- the concatenated output of two runs, split at the bytes written

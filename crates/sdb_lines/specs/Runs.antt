@@ -1,5 +1,5 @@
 -- The output of a handler for its lines, in order.
-use Rattle.std.specs.Prelude.{◌≡◌, ℕ, List, [], ◌∷◌, ◌++◌}
+use Rattle.std.specs.Prelude.{◌≡◌, ℕ, Bool, true, false, List, [], ◌∷◌, ◌++◌}
 use Rattle.std.specs.declared.option.Option.{Option}
 use Rattle.std.specs.Io.KnownBytes.{Appends}
 use Rattle.sdb_lines.specs.Prefixes.{IsPrefix, AppendsPrefix}
@@ -7,6 +7,14 @@ use Rattle.sdb_lines.specs.Prefixes.{IsPrefix, AppendsPrefix}
 -- the bytes are extended by a suffix of which P holds
 abbrev pub AppendsWhere : List ℕ → List ℕ → (List ℕ → Type 0) → Type 0
 AppendsWhere old new P = (more : List ℕ) × (new ≡ old ++ more) × P more
+
+-- the bytes are the whole answer to a line, or a first part of it
+module _ {S T : Type 0} (takes : S → Option (List ℕ) → List ℕ → S → Type 0) (is_answering : S → Option (List ℕ) → List ℕ → T → Type 0)
+    (state : T → S) where
+  abbrev pub AnswersLine : Bool → S → Option (List ℕ) → List ℕ → T → Type 0
+  AnswersLine true s line bytes t = takes s line bytes (state t)
+  AnswersLine false s line bytes t =
+      is_answering s line bytes t × ((rest : List ℕ) × (last : S) × takes s line (bytes ++ rest) last)
 
 -- takes s line answer t: the handler in state s answers this line with these bytes and is then in state t
 module _ {S : Type 0} (takes : S → Option (List ℕ) → List ℕ → S → Type 0) where

@@ -5,10 +5,12 @@
 //! [`CountingWriter`] implement these for the readers and writers of `std`.
 #![tactic(auto)]
 
+pub mod line_handler;
 pub mod line_reader;
 pub mod runner;
 pub mod streams;
 
-pub use line_reader::{LINE_LIMIT, LineHandler, first_line_feed, flush_buffer};
+pub use line_handler::{LineHandler, LineProgress};
+pub use line_reader::{LINE_LIMIT, first_line_feed, flush_buffer};
 pub use runner::{Counts, READ_LIMIT, RunFault, run_lines};
 pub use streams::{CountingReader, CountingWriter, Sink, Source};

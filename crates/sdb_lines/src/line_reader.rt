@@ -2,18 +2,18 @@
 //!
 //! A line feed ends a line and is not part of it; a carriage return is an ordinary byte. The bytes
 //! after the last line feed are a line unless there are none.
-ghost use Rattle.std.specs.Prelude.{◌≡◌, ℕ, ◌+◌, ◌^◌, ◌≤◌, ◌<◌, ◌⊎◌, Bool, List, [], ◌∷◌, ◌++◌, None, Some, true, length, take, drop, OnOk, OnErr, IfOk, IfSome, IfNone, vec_len, IsErrOf, All, ◌≢◌};
-ghost use Rattle.std.specs.declared.option.Option.{Option};
+ghost use Rattle.std.specs.Prelude.{◌≡◌, ℕ, ◌+◌, ◌^◌, ◌≤◌, ◌<◌, ◌⊎◌, [], ◌∷◌, ◌++◌, None, true, false, length, take, drop, OnOk, OnErr, IfOk, IfSome, IfNone, vec_len, IsErrOf, All, ◌≢◌};
 ghost use Rattle.std.specs.Io.KnownBytes.{Appends};
 ghost use Rattle.sdb_lines.specs.Limits.{max_partial_len};
 ghost use Rattle.sdb_lines.specs.Lines.{readable_text, readable_lines_from};
 ghost use Rattle.sdb_lines.specs.Chunks.{lines_ended_by, partial_line_after, kept_prefix};
 ghost use Rattle.sdb_lines.specs.Counts.{is_counted_step, counts_after};
 ghost use Rattle.sdb_lines.specs.Streams.{failures_after};
-ghost use Rattle.sdb_lines.specs.Prefixes.{AppendsPrefix};
-ghost use Rattle.sdb_lines.specs.Runs.{AppendsWhere, AppendsAnswers, AppendsAnswersUpTo, AppendsAnswerPrefix};
+ghost use Rattle.sdb_lines.specs.Prefixes.{AppendsPrefix, WroteUpTo};
+ghost use Rattle.sdb_lines.specs.Runs.{AppendsWhere, AnswersLine, AppendsAnswers, AppendsAnswersUpTo, AppendsAnswerPrefix};
 ghost use Rattle.sdb_lines.specs.declared.runner.RunFault.{RunFault};
 
+use crate::line_handler::{LineHandler, LineProgress};
 use crate::runner::{Counts, RunFault};
 use crate::streams::Sink;
 use memchr::memchr;
@@ -27,59 +27,6 @@ const PARTIAL_LINE_LIMIT: usize = 1_048_577;
 
 // The length of the output, in bytes, at which it is written before the chunk is finished.
 const OUTPUT_LIMIT: usize = 65_536;
-
-/// A state machine that handles lines in order.
-///
-/// ```
-/// // The handler answers a line with the length of the longest line so far.
-/// let mut out = Vec::new(alloc);
-/// handler.write_opening(alloc, &mut out)?;
-/// assert!(rt; handler.handle(alloc, "abc", &mut out)?);
-/// assert_eq!(rt; out.as_slice(), b"0\n3\n".as_slice());
-/// ```
-pub trait LineHandler {
-    // The bytes written before the first line is read.
-    ghost opening: { Self → List ℕ };
-
-    // Whether the handler in the first state answers this line with these bytes and is then in the
-    // second state. `None` is a line that is too long or not UTF-8.
-    ghost handles: { Self → Option (List ℕ) → List ℕ → Self → Type 0 };
-
-    // Whether a line counts as a step, by its text alone.
-    ghost counts_as_step: { List ℕ → Bool };
-
-    /// Appends the opening text to `out`.
-    ///
-    /// # Errors
-    ///
-    /// [`AllocError`] if an allocation fails; the contents of `out` are then unspecified, and the
-    /// caller discards them.
-    fn write_opening(&self, alloc: Global, out: &mut Vec<u8>) -> Result<(), AllocError>
-        ensures { OnOk result (out.new.items ≡ out.old.items ++ opening self.now) };
-
-    /// Handles a line, given without its line feed, and appends the answer to `out`. Returns
-    /// whether the line is a step.
-    ///
-    /// # Errors
-    ///
-    /// [`AllocError`] if an allocation fails; `self` and `out` are then unspecified, and the caller
-    /// ends the run.
-    fn handle(&mut self, alloc: Global, line: &str, out: &mut Vec<u8>) -> Result<bool, AllocError>
-        ensures answer { OnOk result (AppendsWhere out.old.items out.new.items
-            (λ answer. handles self.old (Some line.now) answer self.new)) }
-        ensures step { IfOk result (λ b. b ≡ counts_as_step line.now) };
-
-    /// Handles a line that is longer than [`LINE_LIMIT`] or not UTF-8, and appends the answer to
-    /// `out`. Such a line is not a step.
-    ///
-    /// # Errors
-    ///
-    /// [`AllocError`] if an allocation fails; `self` and `out` are then unspecified, and the caller
-    /// ends the run.
-    fn handle_unreadable(&mut self, alloc: Global, out: &mut Vec<u8>) -> Result<(), AllocError>
-        ensures { OnOk result (AppendsWhere out.old.items out.new.items
-            (λ answer. handles self.old None answer self.new)) };
-}
 
 // The state of a run between two chunks of its input.
 #[derive(Drop)]
@@ -108,28 +55,38 @@ impl LineBuffer {
     }
 }
 
-// Handles a line of arbitrary bytes; returns whether it is a step.
+// Handles a line of arbitrary bytes, and appends its answer or the first part of it.
 fn handle_line<M: LineHandler>(
     alloc: Global,
     machine: &mut M,
     line: &[u8],
     out: &mut Vec<u8>,
-) -> Result<bool, AllocError>
-    ensures answer { OnOk result (AppendsWhere out.old.items out.new.items
-        (λ answer. M.handles machine.old (readable_text line.now) answer machine.new)) }
-    ensures step { IfOk result (λ b. b ≡ is_counted_step M.counts_as_step (readable_text line.now)) }
+) -> Result<LineProgress, AllocError>
+    ensures answer { IfOk result (λ p. AppendsWhere out.old.items out.new.items (λ bytes.
+        AnswersLine M.handles M.is_answering M.state p.is_done (M.state machine.old)
+        (readable_text line.now) bytes machine.new)) }
+    ensures step { IfOk result (λ p. p.is_step ≡ is_counted_step M.counts_as_step (readable_text line.now)) }
 {
     if line.len() > LINE_LIMIT {
-        machine.handle_unreadable(alloc, out)?;
-        return Ok(false);
+        return handle_unreadable(alloc, machine, out);
     }
     match str::from_utf8(line) {
         Ok(text) => machine.handle(alloc, text, out),
-        Err(_) => {
-            machine.handle_unreadable(alloc, out)?;
-            Ok(false)
-        }
+        Err(_) => handle_unreadable(alloc, machine, out),
     }
+}
+
+fn handle_unreadable<M: LineHandler>(
+    alloc: Global,
+    machine: &mut M,
+    out: &mut Vec<u8>,
+) -> Result<LineProgress, AllocError>
+    ensures answer { OnOk result (AppendsWhere out.old.items out.new.items
+        (λ answer. M.handles (M.state machine.old) None answer (M.state machine.new))) }
+    ensures progress { IfOk result (λ p. p ≡ record { is_step = false; is_done = true }) }
+{
+    machine.handle_unreadable(alloc, out)?;
+    Ok(LineProgress::done(false))
 }
 
 // Appends the chunk to the kept bytes of the line, up to the limit.
@@ -180,6 +137,55 @@ pub fn first_line_feed(bytes: &[u8]) -> Option<usize>
     memchr(b'\n', bytes)
 }
 
+// Writes the output once it reaches the limit.
+fn write_long_output<W: Sink>(out: &mut Vec<u8>, writer: &mut W) -> Result<(), RunFault>
+    ensures wrote { OnOk result (WroteUpTo out.new.items (W.bytes_written writer.old)
+        (W.bytes_written writer.new) out.old.items) }
+    ensures prefix_on_err { OnErr result (AppendsPrefix (W.bytes_written writer.old)
+        (W.bytes_written writer.new) out.old.items) }
+    ensures no_failure { OnOk result (W.failures writer.new ≡ W.failures writer.old) }
+    ensures fault { OnErr result (IsErrOf result RunFault.WriteFailed
+        × (W.failures writer.new ≡ failures_after true (W.failures writer.old))) }
+{
+    if out.len() < OUTPUT_LIMIT {
+        return Ok(());
+    }
+    flush_buffer(out, writer)
+}
+
+// Handles a line, and writes the output each time it reaches the limit. Returns whether the line is
+// a step.
+fn answer_line<M: LineHandler, W: Sink>(
+    alloc: Global,
+    machine: &mut M,
+    line: &[u8],
+    out: &mut Vec<u8>,
+    writer: &mut W,
+) -> Result<bool, RunFault>
+    ensures step { IfOk result (λ b. b ≡ is_counted_step M.counts_as_step (readable_text line.now)) }
+    ensures wrote_answers { OnOk result (AppendsAnswersUpTo M.handles out.new.items
+        (M.state machine.old) (readable_text line.now ∷ []) (M.state machine.new)
+        out.old.items (W.bytes_written writer.old) (W.bytes_written writer.new)) }
+    ensures prefix_on_err { OnErr result (AppendsAnswerPrefix M.handles
+        (M.state machine.old) (readable_text line.now ∷ [])
+        out.old.items (W.bytes_written writer.old) (W.bytes_written writer.new)) }
+    ensures write_failures { (W.failures writer.new ≡ W.failures writer.old) ⊎ IsErrOf result RunFault.WriteFailed }
+    ensures write_failed { IsErrOf result RunFault.WriteFailed →
+        W.failures writer.new ≡ failures_after true (W.failures writer.old) }
+    ensures never_read_failed { IsErrOf result RunFault.ReadFailed → ⊥ }
+{
+    let LineProgress {
+        is_step,
+        mut is_done,
+    } = handle_line(alloc, machine, line, out)?;
+    while !is_done {
+        write_long_output(out, writer)?;
+        is_done = machine.continue_answer(alloc, out)?;
+    }
+    write_long_output(out, writer)?;
+    Ok(is_step)
+}
+
 // Handles and counts the line that ends with this chunk, and writes the output once it reaches the
 // limit.
 fn handle_partial<M: LineHandler, W: Sink>(
@@ -196,10 +202,11 @@ fn handle_partial<M: LineHandler, W: Sink>(
         (line_buffer.old.partial_line.items ++ input.now)
         ∷ [])) }
     ensures wrote_answers { OnOk result (AppendsAnswersUpTo M.handles line_buffer.new.out.items
-        machine.old (readable_text (line_buffer.old.partial_line.items ++ input.now) ∷ []) machine.new
+        (M.state machine.old) (readable_text (line_buffer.old.partial_line.items ++ input.now) ∷ [])
+        (M.state machine.new)
         line_buffer.old.out.items (W.bytes_written writer.old) (W.bytes_written writer.new)) }
     ensures prefix_on_err { OnErr result (AppendsAnswerPrefix M.handles
-        machine.old (readable_text (line_buffer.old.partial_line.items ++ input.now) ∷ [])
+        (M.state machine.old) (readable_text (line_buffer.old.partial_line.items ++ input.now) ∷ [])
         line_buffer.old.out.items (W.bytes_written writer.old) (W.bytes_written writer.new)) }
     ensures write_failures { (W.failures writer.new ≡ W.failures writer.old) ⊎ IsErrOf result RunFault.WriteFailed }
     ensures write_failed { IsErrOf result RunFault.WriteFailed →
@@ -207,18 +214,16 @@ fn handle_partial<M: LineHandler, W: Sink>(
     ensures never_read_failed { IsErrOf result RunFault.ReadFailed → ⊥ }
 {
     append_partial(&mut line_buffer.partial_line, input)?;
-    let is_step = handle_line(
+    let is_step = answer_line(
         alloc,
         machine,
         line_buffer.partial_line.as_slice(),
         &mut line_buffer.out,
+        writer,
     )?;
     line_buffer.partial_line.clear();
     line_buffer.counts.count_line(is_step);
-    if line_buffer.out.len() < OUTPUT_LIMIT {
-        return Ok(());
-    }
-    flush_buffer(&mut line_buffer.out, writer)
+    Ok(())
 }
 
 // Handles the lines that end in this chunk, and keeps the rest of it.
@@ -236,9 +241,9 @@ fn handle_chunk_lines<M: LineHandler, W: Sink>(
         ≡ counts_after M.counts_as_step line_buffer.old.counts
         (lines_ended_by input.now line_buffer.old.partial_line.items)) }
     ensures wrote_answers { OnOk result (AppendsAnswersUpTo M.handles line_buffer.new.out.items
-        machine.old (lines_ended_by input.now line_buffer.old.partial_line.items) machine.new
+        (M.state machine.old) (lines_ended_by input.now line_buffer.old.partial_line.items) (M.state machine.new)
         line_buffer.old.out.items (W.bytes_written writer.old) (W.bytes_written writer.new)) }
-    ensures prefix_on_err { OnErr result (AppendsAnswerPrefix M.handles machine.old
+    ensures prefix_on_err { OnErr result (AppendsAnswerPrefix M.handles (M.state machine.old)
         (lines_ended_by input.now line_buffer.old.partial_line.items)
         line_buffer.old.out.items (W.bytes_written writer.old) (W.bytes_written writer.new)) }
     ensures write_failures { (W.failures writer.new ≡ W.failures writer.old) ⊎ IsErrOf result RunFault.WriteFailed }
@@ -305,10 +310,10 @@ pub(crate) fn handle_chunk<M: LineHandler, W: Sink>(
     ensures count { OnOk result (line_buffer.new.counts
         ≡ counts_after M.counts_as_step line_buffer.old.counts
         (lines_ended_by input.now line_buffer.old.partial_line.items)) }
-    ensures wrote_answers { OnOk result (AppendsAnswers M.handles machine.old
-        (lines_ended_by input.now line_buffer.old.partial_line.items) machine.new
+    ensures wrote_answers { OnOk result (AppendsAnswers M.handles (M.state machine.old)
+        (lines_ended_by input.now line_buffer.old.partial_line.items) (M.state machine.new)
         [] (W.bytes_written writer.old) (W.bytes_written writer.new)) }
-    ensures prefix_on_err { OnErr result (AppendsAnswerPrefix M.handles machine.old
+    ensures prefix_on_err { OnErr result (AppendsAnswerPrefix M.handles (M.state machine.old)
         (lines_ended_by input.now line_buffer.old.partial_line.items)
         [] (W.bytes_written writer.old) (W.bytes_written writer.new)) }
     ensures write_failures { (W.failures writer.new ≡ W.failures writer.old) ⊎ IsErrOf result RunFault.WriteFailed }
@@ -332,10 +337,10 @@ pub(crate) fn handle_rest<M: LineHandler, W: Sink>(
     ensures count { OnOk result (line_buffer.new.counts
         ≡ counts_after M.counts_as_step line_buffer.old.counts
         (readable_lines_from [] line_buffer.old.partial_line.items)) }
-    ensures wrote_answers { OnOk result (AppendsAnswers M.handles machine.old
-        (readable_lines_from [] line_buffer.old.partial_line.items) machine.new
+    ensures wrote_answers { OnOk result (AppendsAnswers M.handles (M.state machine.old)
+        (readable_lines_from [] line_buffer.old.partial_line.items) (M.state machine.new)
         [] (W.bytes_written writer.old) (W.bytes_written writer.new)) }
-    ensures prefix_on_err { OnErr result (AppendsAnswerPrefix M.handles machine.old
+    ensures prefix_on_err { OnErr result (AppendsAnswerPrefix M.handles (M.state machine.old)
         (readable_lines_from [] line_buffer.old.partial_line.items)
         [] (W.bytes_written writer.old) (W.bytes_written writer.new)) }
     ensures write_failures { (W.failures writer.new ≡ W.failures writer.old) ⊎ IsErrOf result RunFault.WriteFailed }
@@ -346,11 +351,12 @@ pub(crate) fn handle_rest<M: LineHandler, W: Sink>(
     if line_buffer.partial_line.is_empty() {
         return Ok(());
     }
-    let is_step = handle_line(
+    let is_step = answer_line(
         alloc,
         machine,
         line_buffer.partial_line.as_slice(),
         &mut line_buffer.out,
+        writer,
     )?;
     line_buffer.counts.count_line(is_step);
     write_and_flush(&mut line_buffer.out, writer)

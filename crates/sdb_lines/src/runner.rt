@@ -8,7 +8,8 @@ ghost use Rattle.sdb_lines.specs.Counts.{AreCountsOf};
 ghost use Rattle.sdb_lines.specs.Runs.{AppendsAnswers, AppendsAnswerPrefix};
 ghost use Rattle.sdb_lines.specs.Streams.{ReadFaultIsCounted, WriteFaultIsCounted};
 
-use crate::line_reader::{LineBuffer, LineHandler, handle_chunk, handle_rest, write_opening};
+use crate::line_handler::LineHandler;
+use crate::line_reader::{LineBuffer, handle_chunk, handle_rest, write_opening};
 use crate::streams::{Sink, Source};
 use std::alloc::{AllocError, Global};
 use thiserror::Error;
@@ -100,13 +101,13 @@ pub fn run_lines<M: LineHandler, R: Source, W: Sink>(
 ) -> Result<Counts, RunFault>
     // The handler took exactly the lines of the input, in order, and all answers were written.
     ensures wrote_all { OnOk result (IfSome (R.remaining_input reader.old) (λ input.
-        AppendsAnswers M.handles machine.old (map readable_text (lines_of input)) machine.new
-        (M.opening machine.old) (W.bytes_written writer.old) (W.bytes_written writer.new))) }
+        AppendsAnswers M.handles (M.state machine.old) (map readable_text (lines_of input))
+        (M.state machine.new) (M.opening machine.old) (W.bytes_written writer.old) (W.bytes_written writer.new))) }
     ensures counts { IfOk result (λ counts. IfSome (R.remaining_input reader.old)
         (λ input. AreCountsOf M.counts_as_step input counts)) }
     // After an error a prefix of the opening text and the answers was written.
     ensures prefix_on_err { OnErr result (IfSome (R.remaining_input reader.old) (λ input.
-        AppendsAnswerPrefix M.handles machine.old (map readable_text (lines_of input))
+        AppendsAnswerPrefix M.handles (M.state machine.old) (map readable_text (lines_of input))
         (M.opening machine.old) (W.bytes_written writer.old) (W.bytes_written writer.new))) }
     // No read, write or flush failed, except the one that is the error.
     ensures read_failures { ReadFaultIsCounted result (R.calls reader.old) (R.failures reader.old)

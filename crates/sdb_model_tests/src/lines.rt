@@ -3,7 +3,9 @@ ghost use Rattle.std.specs.Prelude.{◌∷◌, []};
 ghost use Rattle.sdb_model_tests.specs.LongestLine.{TakesLine, has_bytes};
 
 use crate::helpers::displays_as;
-use sdb_lines::{CountingReader, CountingWriter, Counts, LineHandler, RunFault, run_lines};
+use sdb_lines::{
+    CountingReader, CountingWriter, Counts, LineHandler, LineProgress, RunFault, run_lines,
+};
 use std::alloc::{AllocError, Global};
 use std::cell::Cell;
 use std::io;
@@ -17,9 +19,20 @@ struct LongestLineHandler {
 }
 
 impl LineHandler for LongestLineHandler {
+    ghost use Rattle.std.specs.Prelude.{ℕ};
+
+    ghost State = { ℕ };
+
+    ghost state = { λ s. s.digit };
+
     ghost opening = { λ s. s.digit ∷ 10 ∷ [] };
 
-    ghost handles = { λ s line answer t. TakesLine s.digit line answer t.digit };
+    ghost handles = { λ s line answer t. TakesLine s line answer t };
+
+    // Each answer is appended whole.
+    ghost is_answering = { λ s line bytes t. ⊥ };
+
+    ghost parts_left = { λ s. 0 };
 
     ghost counts_as_step = { has_bytes };
 
@@ -32,10 +45,14 @@ impl LineHandler for LongestLineHandler {
         _alloc: Global,
         line: &str,
         out: &mut Vec<u8>,
-    ) -> Result<bool, AllocError> {
+    ) -> Result<LineProgress, AllocError> {
         self.digit = self.digit.max(b'0' + line.len().min(9) as u8);
         out.extend_from_slice(&[self.digit, b'\n'])?;
-        Ok(!line.is_empty())
+        Ok(LineProgress::done(!line.is_empty()))
+    }
+
+    fn continue_answer(&mut self, _alloc: Global, _out: &mut Vec<u8>) -> Result<bool, AllocError> {
+        Ok(true)
     }
 
     fn handle_unreadable(&mut self, _alloc: Global, out: &mut Vec<u8>) -> Result<(), AllocError> {

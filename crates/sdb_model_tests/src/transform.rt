@@ -4,9 +4,7 @@ use crate::helpers::{
     text_of, with_repeated,
 };
 use sdb_component::{Component, Op};
-use sdb_transform::{
-    Fault, Side, cross, transform, transform_if_changed, transform_one, transform_owned,
-};
+use sdb_transform::{Fault, Side, TransformedOp, cross, transform, transform_one};
 use serde_json::Value;
 use std::alloc::Global;
 use std::process::Abort;
@@ -291,7 +289,8 @@ fn one_refused_pair_refuses_both_operations(rt: HostRuntime) {
         op(&rt, rt.alloc(), REFUSED_RIGHT),
     );
     assert!(rt; cross(rt.alloc(), &left, &right).err() == Some(Fault::NotTransformed));
-    let transformed = transform(rt.alloc(), &right, &left, Side::Right);
+    let right = Arc::new(rt.alloc(), right).expect(&rt, "out of memory");
+    let transformed = transform(rt.alloc(), right, &left, Side::Right);
     assert!(rt; transformed.err() == Some(Fault::NotTransformed));
 }
 
@@ -354,27 +353,38 @@ fn a_delete_is_split_by_a_hundred_inserts(rt: HostRuntime) {
     );
 }
 
-// Checks each transform function for an insert of B against an insert of A at the same index.
+// Checks an insert of B against an insert of A at the same index, with and without another owner.
 fn transforms_to(rt: &impl Abort, alloc: Global, side: Side, wanted: &str) -> bool {
-    let insert = op(rt, alloc, r#"[{"li":"B","p":[0]}]"#);
     let other = op(rt, alloc, r#"[{"li":"A","p":[0]}]"#);
-    let after = transform(alloc, &insert, &other, side).expect(rt, "transformed");
-    let borrowed = transform_if_changed(alloc, &insert, &other, side).expect(rt, "transformed");
-    let shared = Arc::new(alloc, insert).expect(rt, "out of memory");
-    let owned = transform_owned(alloc, shared, &other, side).expect(rt, "transformed");
-    op_prints_as(rt, alloc, &after, wanted)
-        && borrowed.is_some_and(|op| op_prints_as(rt, alloc, &op, wanted))
-        && op_prints_as(rt, alloc, &owned, wanted)
+    let insert = shared_op(rt, alloc, r#"[{"li":"B","p":[0]}]"#);
+    let clone = Arc::try_clone(&insert).expect(rt, "out of memory");
+    is_new_op(rt, alloc, &transform(alloc, clone, &other, side), wanted)
+        && is_new_op(rt, alloc, &transform(alloc, insert, &other, side), wanted)
 }
 
-// Returns whether the operation is unchanged by the other one, and the owned one is returned
-// unchanged.
+fn shared_op(rt: &impl Abort, alloc: Global, text: &str) -> Arc<Op> {
+    Arc::new(alloc, op(rt, alloc, text)).expect(rt, "out of memory")
+}
+
+fn is_new_op(
+    rt: &impl Abort,
+    alloc: Global,
+    transformed: &Result<TransformedOp, Fault>,
+    wanted: &str,
+) -> bool {
+    match transformed {
+        Ok(TransformedOp::New(op)) => op_prints_as(rt, alloc, op, wanted),
+        _ => false,
+    }
+}
+
+// Returns whether the operation is returned as it was passed.
 fn is_unchanged(rt: &impl Abort, alloc: Global, text: &str, other: &str) -> bool {
     let other = op(rt, alloc, other);
-    let borrowed = transform_if_changed(alloc, &op(rt, alloc, text), &other, Side::Left);
-    let shared = Arc::new(alloc, op(rt, alloc, text)).expect(rt, "out of memory");
-    let owned = transform_owned(alloc, shared, &other, Side::Left).expect(rt, "transformed");
-    borrowed.expect(rt, "transformed").is_none() && op_prints_as(rt, alloc, &owned, text)
+    match transform(alloc, shared_op(rt, alloc, text), &other, Side::Left) {
+        Ok(TransformedOp::Unchanged(op)) => op_prints_as(rt, alloc, &op, text),
+        _ => false,
+    }
 }
 
 #[test]

@@ -15,7 +15,7 @@ use crate::codes::Code;
 use crate::entry::Entry;
 use sdb_apply::apply_atomic;
 use sdb_component::{Op, Path};
-use sdb_transform::{Side, transform, transform_if_changed, transform_owned};
+use sdb_transform::{Side, TransformedOp, transform};
 use sdb_value::Json;
 use std::alloc::{AllocError, Global};
 use std::marker::Model;
@@ -244,17 +244,21 @@ pub fn over(alloc: Global, content: &Content, stored: &Content) -> Result<Conten
         Kind::Edit(other) => match content.kind() {
             Kind::Create(_) => Err(Code::E6),
             Kind::Delete => Ok(Content::delete()),
-            Kind::Edit(op) => edit_over(alloc, op, other),
+            Kind::Edit(op) => edit_over(alloc, Arc::try_clone(op)?, other),
         },
     }
 }
 
-fn edit_over(alloc: Global, op: &Op, other: &Op) -> Result<Content, Code>
-    ensures ok { IfOk result (λ c. edit_over op.now other.now ≡ Ok c) }
-    ensures err { IfErr result (λ code. IsRefusalOrOutOfMemory (edit_over op.now other.now) code) }
+fn edit_over(alloc: Global, op: Arc<Op>, other: &Op) -> Result<Content, Code>
+    ensures ok { IfOk result (λ c. edit_over (arc_value op) other.now ≡ Ok c) }
+    ensures err { IfErr result (λ code. IsRefusalOrOutOfMemory (edit_over (arc_value op) other.now) code) }
 {
-    let rebased = transform(alloc, op, other, Side::Left)?;
-    Ok(Content::edit(alloc, rebased)?)
+    match transform(alloc, op, other, Side::Left)? {
+        TransformedOp::Unchanged(op) => Ok(Content {
+            kind: Kind::Edit(op),
+        }),
+        TransformedOp::New(op) => Ok(Content::edit(alloc, op)?),
+    }
 }
 
 /// Transforms a content against each entry in order, up to the first refusal. Returns `None` if the
@@ -312,29 +316,19 @@ fn rebase_next(alloc: Global, rebased: Content, stored: &Content) -> Result<Cont
     ensures memory { IsErrOf result E10 → over_allocates rebased stored.now ≡ true }
 {
     match (rebased.kind, stored.kind()) {
-        (Kind::Edit(op), Kind::Edit(other)) => rebase_owned_edit(alloc, op, other),
+        (Kind::Edit(op), Kind::Edit(other)) => edit_over(alloc, op, other),
         (kind, _) => over(alloc, &Content { kind }, stored),
     }
 }
 
 // As `edit_over`, but returns `None` if the edit is known to be unchanged.
-fn rebase_edit(alloc: Global, op: &Op, other: &Op) -> Result<Option<Content>, Code>
-    ensures ok { IfOk result (λ m. edit_over op.now other.now ≡ Ok (unwrap_or m (edit op.now))) }
-    ensures err { IfErr result (λ code. IsRefusalOrOutOfMemory (edit_over op.now other.now) code) }
+fn rebase_edit(alloc: Global, op: &Arc<Op>, other: &Op) -> Result<Option<Content>, Code>
+    ensures ok { IfOk result (λ m. edit_over (arc_value op.now) other.now
+        ≡ Ok (unwrap_or m (edit (arc_value op.now)))) }
+    ensures err { IfErr result (λ code. IsRefusalOrOutOfMemory (edit_over (arc_value op.now) other.now) code) }
 {
-    match transform_if_changed(alloc, op, other, Side::Left)? {
-        Some(rebased) => Ok(Some(Content::edit(alloc, rebased)?)),
-        None => Ok(None),
+    match transform(alloc, Arc::try_clone(op)?, other, Side::Left)? {
+        TransformedOp::Unchanged(_) => Ok(None),
+        TransformedOp::New(op) => Ok(Some(Content::edit(alloc, op)?)),
     }
-}
-
-// As `edit_over`, for an owned operation.
-fn rebase_owned_edit(alloc: Global, op: Arc<Op>, other: &Op) -> Result<Content, Code>
-    ensures ok { IfOk result (λ c. edit_over (arc_value op) other.now ≡ Ok c) }
-    ensures err { IfErr result (λ code. IsRefusalOrOutOfMemory (edit_over (arc_value op) other.now) code) }
-{
-    let rebased = transform_owned(alloc, op, other, Side::Left)?;
-    Ok(Content {
-        kind: Kind::Edit(rebased),
-    })
 }

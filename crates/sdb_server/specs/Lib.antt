@@ -2,5 +2,5 @@ pub mod Clocks
 pub mod Runs
 pub mod PassModel
 pub mod LineSource
-pub mod State
+pub mod LineView
 pub mod ThreadModel

@@ -1,5 +1,5 @@
 -- The backend and pass numbers that a session preserves, and the host of a server.
-use Rattle.std.specs.Prelude.{◌≡◌, ℕ, ◌+◌, ◌≤◌}
+use Rattle.std.specs.Prelude.{◌≡◌}
 use Rattle.sdb_backend.specs.PassModel.{pass_number, IsPassOfBackend, IsHostOfBackend}
 use Rattle.sdb_backend.specs.declared.backend.Backend.{Backend}
 use Rattle.sdb_backend.specs.declared.pass.Host.{Host}

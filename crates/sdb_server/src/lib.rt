@@ -21,7 +21,7 @@ pub use accept_loop::{listen, listen_until_stopped};
 pub use client_loop::serve;
 pub use clock::{Clock, ListClock, SystemClock, moment_since};
 pub use deadline_stream::DeadlineStream;
-pub use line_session::{run_lines, run_lines_at_exit};
+pub use line_session::{LineSession, run_lines};
 pub use server_state::{CLIENT_LIMIT, ServerState, set_socket_options};
 
 // Maximum number of entries read from one queue at a time.

@@ -1,44 +1,74 @@
 //! One session over lines.
-ghost use Rattle.std.specs.Prelude.{◌≡◌, [], map, OnOk, OnErr, IfOk, IfSome};
+ghost use Rattle.std.specs.Prelude.{◌≡◌, map, OnOk, OnErr, IfOk, IfSome};
 ghost use Rattle.sdb_lines.specs.Counts.{AreCountsOf};
 ghost use Rattle.sdb_lines.specs.Lines.{readable_text, lines_of};
 ghost use Rattle.sdb_lines.specs.Streams.{ReadFaultIsCounted, WriteFaultIsCounted};
 ghost use Rattle.sdb_session.specs.Dialogue.{opening};
 ghost use Rattle.sdb_session.specs.View.{plain_session};
-ghost use Rattle.sdb_server.specs.Runs.{WroteSession, WroteSessionPrefix};
-ghost use Rattle.sdb_server.specs.LineSource.{is_request, own_source};
-ghost use Rattle.sdb_server.specs.Clocks.{TimedDialogue};
-ghost use Rattle.sdb_server.specs.State.{timed_by};
+ghost use Rattle.sdb_server.specs.LineSource.{is_request};
+ghost use Rattle.sdb_server.specs.Runs.{LineState, HandlesLine, WroteSession, WroteSessionPrefix, first_line_state};
+ghost use Rattle.sdb_server.specs.LineView.{line_state, IsListing, listing_left};
 
 use crate::TAKE_LIMIT;
 use crate::clock::Clock;
 use sdb_desk::Shard;
-use sdb_lines::{Counts, LineHandler, RunFault, Sink, Source, run_lines as run};
+use sdb_lines::{Counts, LineHandler, LineProgress, RunFault, Sink, Source, run_lines as run};
 use sdb_projection::Table;
-use sdb_session::Session;
+use sdb_session::{Listing, Progress, Session};
 use sdb_submit::Solo;
 use std::alloc::{AllocError, Global};
-use std::mem::forget;
 
 // The session's source.
 const SOURCE: &str = "s1";
 
-// The session with its documents, its projections and its clock.
+/// A session over lines, with its documents, its projections and its clock.
+///
+/// Freeing it frees its documents entry by entry. A program that exits afterwards may leak it
+/// instead, by `std::mem::forget`.
 #[derive(Drop)]
-struct LineSession<'a, C> {
+pub struct LineSession<'a, C> {
     table: &'a Table,
     clock: C,
     shard: Shard,
     session: Session,
+    // What is left of the listing that answers the present line.
+    listing: Option<Listing>,
+}
+
+impl<'a, C: Clock + Drop> LineSession<'a, C> {
+    /// Creates a session without documents. Its source is `s1`; it sees documents through the
+    /// projections of the table, and reads the clock once for each line.
+    ///
+    /// # Errors
+    ///
+    /// [`AllocError`] if an allocation fails.
+    pub fn new(alloc: Global, table: &'a Table, clock: C) -> Result<LineSession<'a, C>, AllocError>
+        ensures { IfOk result (λ s. line_state C.remaining_moments s
+            ≡ first_line_state table.now (C.remaining_moments clock)) }
+    {
+        Ok(LineSession {
+            table,
+            clock,
+            shard: Shard::new(alloc),
+            session: Session::new(alloc, String::from_str(alloc, SOURCE)?),
+            listing: None,
+        })
+    }
 }
 
 impl<C: Clock + Drop> LineHandler for LineSession<'_, C> {
+    ghost State = { LineState };
+
+    ghost state = { line_state C.remaining_moments };
+
     ghost opening = { λ s. opening (plain_session s.session).source };
 
     // As `Dialogue` answers the line, at the clock's moment; the projections are unchanged.
-    ghost handles = { λ s line answer t.
-        TimedDialogue s.table.now (timed_by C.remaining_moments s) line answer (timed_by C.remaining_moments t)
-        × (t.table ≡ s.table) };
+    ghost handles = { HandlesLine };
+
+    ghost is_answering = { λ s line bytes t. IsListing C.remaining_moments s line bytes t };
+
+    ghost parts_left = { λ s. listing_left s.listing };
 
     ghost counts_as_step = { is_request };
 
@@ -51,16 +81,50 @@ impl<C: Clock + Drop> LineHandler for LineSession<'_, C> {
         _alloc: Global,
         line: &str,
         out: &mut Vec<u8>,
-    ) -> Result<bool, AllocError> {
+    ) -> Result<LineProgress, AllocError> {
         let LineSession {
             table,
             clock,
             shard,
             session,
+            listing,
         } = self;
-        let is_request = session.handle_to(&Solo, shard, table, line, clock.now(), out)?;
-        session.pump_to(&Solo, shard, table, TAKE_LIMIT, out)?;
-        Ok(is_request)
+        match session.begin_to(&Solo, shard, table, line, clock.now(), out)? {
+            Progress::Done { is_request } => {
+                session.pump_to(&Solo, shard, table, TAKE_LIMIT, out)?;
+                Ok(LineProgress::done(is_request))
+            }
+            Progress::Listing(rest) => {
+                *listing = Some(rest);
+                Ok(LineProgress {
+                    is_step: true,
+                    is_done: false,
+                })
+            }
+        }
+    }
+
+    fn continue_answer(&mut self, _alloc: Global, out: &mut Vec<u8>) -> Result<bool, AllocError> {
+        let LineSession {
+            table,
+            shard,
+            session,
+            listing,
+            ..
+        } = self;
+        let Some(rest) = listing.take() else {
+            return Ok(true);
+        };
+        match session.continue_to(&Solo, shard, table, rest, out)? {
+            Some(rest) => {
+                *listing = Some(rest);
+                Ok(false)
+            }
+            None => {
+                session.pump_to(&Solo, shard, table, TAKE_LIMIT, out)?;
+                Ok(true)
+            }
+        }
     }
 
     fn handle_unreadable(&mut self, _alloc: Global, out: &mut Vec<u8>) -> Result<(), AllocError> {
@@ -69,6 +133,7 @@ impl<C: Clock + Drop> LineHandler for LineSession<'_, C> {
             clock,
             shard,
             session,
+            ..
         } = self;
         clock.now();
         session.refuse_unreadable_to(out)?;
@@ -77,16 +142,15 @@ impl<C: Clock + Drop> LineHandler for LineSession<'_, C> {
     }
 }
 
-/// Runs one session over the reader's lines, starting without documents. The session's source is
-/// `s1`; it sees documents through the projections of the table.
+/// Runs a session over the reader's lines.
 ///
 /// - The opening message is written first. After the answers to a line come the entries that it
 ///   stored in documents to which the session is subscribed.
 /// - An empty line, a line that isn't UTF-8 and a line of more than 1,048,576 bytes are answered
 ///   E1. Bytes after the last line feed are a line, unless there are none.
-/// - The answers to all lines read so far are written and flushed before the next read. No clause
-///   states this; tests check it.
-/// - The clock is read once for each line, and an operation is stored with that time.
+/// - The answers to all lines read so far are written and flushed before the next read, and a
+///   listing is written while it is read. No clause states this; tests check it.
+/// - An operation is stored with the time of its line.
 /// - If an allocation of a document call fails, the request is answered E10, changes no document,
 ///   and the run continues.
 /// - In the result, `lines` counts the lines and `steps` those that are requests.
@@ -100,82 +164,30 @@ impl<C: Clock + Drop> LineHandler for LineSession<'_, C> {
 /// let fetch = b"{\"a\":\"f\",\"c\":\"b\",\"d\":\"1\"}\n";
 /// let mut reader = CountingReader::new(fetch.as_slice());
 /// let mut writer = CountingWriter::new(Vec::new(alloc));
-/// let clock = ListClock::new(Vec::new(alloc));
-/// let counts = run_lines(alloc, &Table::new(alloc), clock, &mut reader, &mut writer)?;
+/// let table = Table::new(alloc);
+/// let mut session = LineSession::new(alloc, &table, ListClock::new(Vec::new(alloc)))?;
+/// let counts = run_lines(alloc, &mut session, &mut reader, &mut writer)?;
 /// assert_eq!(rt; (counts.lines, counts.steps), (1, 1));
 /// ```
 pub fn run_lines<C: Clock + Drop, R: Source, W: Sink>(
     alloc: Global,
-    table: &Table,
-    clock: C,
+    session: &mut LineSession<'_, C>,
     reader: &mut R,
     writer: &mut W,
 ) -> Result<Counts, RunFault>
-    ensures wrote_all { OnOk result (IfSome (R.remaining_input reader.old) (λ input. WroteSession table.now
-        (C.remaining_moments clock)
-        (map readable_text (lines_of input)) (W.bytes_written writer.old) (W.bytes_written writer.new))) }
+    ensures wrote_all { OnOk result (IfSome (R.remaining_input reader.old) (λ input. WroteSession
+        (line_state C.remaining_moments session.old) (map readable_text (lines_of input))
+        (line_state C.remaining_moments session.new) (W.bytes_written writer.old) (W.bytes_written writer.new))) }
     ensures counts { IfOk result (λ counts. IfSome (R.remaining_input reader.old)
         (λ input. AreCountsOf is_request input counts)) }
     // After a fault, a prefix of the opening and the answers was written.
-    ensures prefix_on_err { OnErr result (IfSome (R.remaining_input reader.old) (λ input. WroteSessionPrefix table.now
-        (C.remaining_moments clock)
-        (map readable_text (lines_of input)) (W.bytes_written writer.old) (W.bytes_written writer.new))) }
+    ensures prefix_on_err { OnErr result (IfSome (R.remaining_input reader.old) (λ input. WroteSessionPrefix
+        (line_state C.remaining_moments session.old) (map readable_text (lines_of input))
+        (W.bytes_written writer.old) (W.bytes_written writer.new))) }
     // No read, write or flush failed, except the one that is the fault.
     ensures read_failures { ReadFaultIsCounted result (R.calls reader.old) (R.failures reader.old)
         (R.calls reader.new) (R.failures reader.new) }
     ensures write_failures { WriteFaultIsCounted result (W.failures writer.old) (W.failures writer.new) }
 {
-    let mut line_session = LineSession {
-        table,
-        clock,
-        shard: Shard::new(alloc),
-        session: new_session(alloc)?,
-    };
-    run(alloc, &mut line_session, reader, writer)
-}
-
-/// Runs as [`run_lines`], for a program that exits afterwards: the documents are leaked instead of
-/// freed entry by entry.
-///
-/// # Errors
-///
-/// As [`run_lines`].
-pub fn run_lines_at_exit<C: Clock + Drop, R: Source, W: Sink>(
-    alloc: Global,
-    table: &Table,
-    clock: C,
-    reader: &mut R,
-    writer: &mut W,
-) -> Result<Counts, RunFault>
-    ensures wrote_all { OnOk result (IfSome (R.remaining_input reader.old) (λ input. WroteSession table.now
-        (C.remaining_moments clock)
-        (map readable_text (lines_of input)) (W.bytes_written writer.old) (W.bytes_written writer.new))) }
-    ensures counts { IfOk result (λ counts. IfSome (R.remaining_input reader.old)
-        (λ input. AreCountsOf is_request input counts)) }
-    // After a fault, a prefix of the opening and the answers was written.
-    ensures prefix_on_err { OnErr result (IfSome (R.remaining_input reader.old) (λ input. WroteSessionPrefix table.now
-        (C.remaining_moments clock)
-        (map readable_text (lines_of input)) (W.bytes_written writer.old) (W.bytes_written writer.new))) }
-    // No read, write or flush failed, except the one that is the fault.
-    ensures read_failures { ReadFaultIsCounted result (R.calls reader.old) (R.failures reader.old)
-        (R.calls reader.new) (R.failures reader.new) }
-    ensures write_failures { WriteFaultIsCounted result (W.failures writer.old) (W.failures writer.new) }
-{
-    let mut leaked_session = LineSession {
-        table,
-        clock,
-        shard: Shard::new(alloc),
-        session: new_session(alloc)?,
-    };
-    let counts = run(alloc, &mut leaked_session, reader, writer);
-    forget(leaked_session);
-    counts
-}
-
-// Creates the session.
-fn new_session(alloc: Global) -> Result<Session, AllocError>
-    ensures source { IfOk result (λ s. (plain_session s).source ≡ own_source) }
-    ensures subs { IfOk result (λ s. (plain_session s).subs ≡ []) }
-{
-    Ok(Session::new(alloc, String::from_str(alloc, SOURCE)?))
+    run(alloc, session, reader, writer)
 }

@@ -4,12 +4,13 @@ use crate::projection_option::{ProjectionOptionError, table_of};
 use clap::builder::ValueParser;
 use clap::{Arg, ArgAction, ArgGroup, ArgMatches, Command, Error};
 use sdb_cli::{STATUS_OK, exit_status, print_help_or_error, print_refusal};
-use sdb_lines::{CountingReader, CountingWriter};
+use sdb_lines::{CountingReader, CountingWriter, RunFault};
 use sdb_projection::{Table, TableFault};
-use sdb_server::{SystemClock, run_lines_at_exit};
+use sdb_server::{LineSession, SystemClock, run_lines};
 use std::alloc::{AllocError, Global};
 use std::io;
 use std::io::{Read, StdinLock};
+use std::mem::forget;
 use std::net::{Net, SocketAddr, TcpListener, TcpStream};
 use std::sync::Wait;
 use std::thread::Threads;
@@ -258,10 +259,24 @@ where
     C: sdb_server::Clock + Drop,
     I: Read + Drop,
 {
-    let mut reader = CountingReader::new(input);
-    let mut writer = CountingWriter::new(io::writer(rt));
-    match run_lines_at_exit(rt.alloc(), table, clock, &mut reader, &mut writer) {
-        Ok(_) => STATUS_OK,
+    match run_to_end(rt, clock, input, table) {
+        Ok(()) => STATUS_OK,
         Err(fault) => exit_status(rt, fault),
     }
+}
+
+// Answers the lines, and leaks the documents, since the program ends.
+fn run_to_end<R, C, I>(rt: &R, clock: C, input: I, table: &Table) -> Result<(), RunFault>
+where
+    R: AllocGlobal + Print,
+    C: sdb_server::Clock + Drop,
+    I: Read + Drop,
+{
+    let mut reader = CountingReader::new(input);
+    let mut writer = CountingWriter::new(io::writer(rt));
+    let mut session = LineSession::new(rt.alloc(), table, clock)?;
+    let counts = run_lines(rt.alloc(), &mut session, &mut reader, &mut writer);
+    forget(session);
+    counts?;
+    Ok(())
 }

@@ -1,7 +1,7 @@
 //! Dialogues of one session, each on a fresh server: its lines, and every line that is answered.
 use sdb_lines::{CountingReader, CountingWriter};
 use sdb_projection::{Projection, Table};
-use sdb_server::{ListClock, run_lines};
+use sdb_server::{LineSession, ListClock, run_lines};
 use std::alloc::Global;
 use std::collections::BTreeSet;
 use std::process::Abort;
@@ -528,7 +528,10 @@ fn is_answered(alloc: Global, table: &Table, lines: &str, answers: &str) -> bool
     let mut reader = CountingReader::new(lines.as_bytes());
     let mut writer = CountingWriter::new(Vec::new(alloc));
     let clock = ListClock::new(Vec::new(alloc));
-    run_lines(alloc, table, clock, &mut reader, &mut writer).is_ok()
+    let Ok(mut session) = LineSession::new(alloc, table, clock) else {
+        return false;
+    };
+    run_lines(alloc, &mut session, &mut reader, &mut writer).is_ok()
         && writer.stream.as_slice() == answers.as_bytes()
 }
 

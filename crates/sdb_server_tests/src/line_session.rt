@@ -1,10 +1,10 @@
 //! Tests of line sessions with failing streams and a list clock. Their other answers are tested by
 //! the lines of the program.
-use sdb_lines::{CountingReader, CountingWriter, RunFault};
+use sdb_lines::{CountingReader, CountingWriter, Counts, RunFault, Sink, Source};
 use sdb_oplog::Moment;
 use sdb_projection::Table;
-use sdb_server::{ListClock, run_lines, run_lines_at_exit};
-use std::alloc::Global;
+use sdb_server::{LineSession, ListClock, run_lines};
+use std::alloc::{AllocError, Global};
 use std::io;
 use std::io::{ErrorKind, Read, Write};
 
@@ -55,6 +55,18 @@ const COMPLETE_OUTPUT: &str =
 {"a":"f","c":"b","d":"1","data":{"type":null,"v":0}}
 "#;
 
+// Runs a new session over the reader's lines.
+fn run_session<R: Source, W: Sink>(
+    alloc: Global,
+    clock: ListClock,
+    reader: &mut R,
+    writer: &mut W,
+) -> Result<Counts, RunFault> {
+    let table = Table::new(alloc);
+    let mut session = LineSession::new(alloc, &table, clock)?;
+    run_lines(alloc, &mut session, reader, writer)
+}
+
 // Returns the output for the fetch, if the streams fail after so many calls, and the fault that
 // ended the run.
 fn run(alloc: Global, reads: usize, calls: usize) -> (Vec<u8>, Option<RunFault>) {
@@ -66,7 +78,7 @@ fn run(alloc: Global, reads: usize, calls: usize) -> (Vec<u8>, Option<RunFault>)
     let bytes = Vec::new(alloc);
     let mut writer = CountingWriter::new(FailingWriter { bytes, calls });
     let clock = ListClock::new(Vec::new(alloc));
-    let outcome = run_lines(alloc, &Table::new(alloc), clock, &mut reader, &mut writer);
+    let outcome = run_session(alloc, clock, &mut reader, &mut writer);
     (writer.stream.bytes, outcome.err())
 }
 
@@ -118,17 +130,8 @@ const TIMESTAMP_ANSWERS: &str = r#"{"a":"op","c":"b","d":"1","seq":3,"src":"w","
 fn output_of(alloc: Global, clock: ListClock, lines: &str) -> Vec<u8> {
     let mut reader = CountingReader::new(lines.as_bytes());
     let mut writer = CountingWriter::new(Vec::new(alloc));
-    let _ = run_lines(alloc, &Table::new(alloc), clock, &mut reader, &mut writer);
+    let _ = run_session(alloc, clock, &mut reader, &mut writer);
     writer.stream
-}
-
-#[test]
-fn run_lines_at_exit_writes_the_same(rt: HostRuntime) {
-    let mut reader = CountingReader::new(FETCH.as_bytes());
-    let mut writer = CountingWriter::new(Vec::new(rt.alloc()));
-    let (table, clock) = (Table::new(rt.alloc()), ListClock::new(Vec::new(rt.alloc())));
-    let outcome = run_lines_at_exit(rt.alloc(), &table, clock, &mut reader, &mut writer);
-    assert!(rt; outcome.is_ok() && writer.stream.as_slice() == COMPLETE_OUTPUT.as_bytes());
 }
 
 #[test]
@@ -140,4 +143,71 @@ fn documents_are_fetched_at_timestamps(rt: HostRuntime) {
     }
     let written = output_of(rt.alloc(), ListClock::new(moments), TIMESTAMP_LINES);
     assert!(rt; written.as_slice().ends_with(TIMESTAMP_ANSWERS.as_bytes()));
+}
+
+// An output that keeps the number of its bytes and the length of its longest write.
+#[derive(Drop)]
+struct MeasuringWriter {
+    written: usize,
+    longest: usize,
+}
+
+impl io::Write for MeasuringWriter {
+    fn write(&mut self, buf: &[u8]) -> io::Result<usize> {
+        self.written = self.written.saturating_add(buf.len());
+        self.longest = self.longest.max(buf.len());
+        Ok(buf.len())
+    }
+
+    fn flush(&mut self) -> io::Result<()> {
+        Ok(())
+    }
+}
+
+const CREATION: &str =
+    r#"{"a":"op","c":"b","d":"1","src":"w","seq":1,"create":{"type":"json0","data":{"n":0}}}
+"#;
+
+const OPERATION_PREFIX: &str = r#"{"a":"op","c":"b","d":"1","src":"w","seq":"#;
+
+const OPERATION_SUFFIX: &str = r#","op":[{"p":["n"],"na":1}]}
+"#;
+
+// Returns the lines of a creation, of so many operations, and of the request.
+fn long_input(alloc: Global, count: u64, request: &str) -> Result<String, AllocError> {
+    let mut lines = String::from_str(alloc, CREATION)?;
+    for seq in 2..=count {
+        let line = format!(in alloc; "{OPERATION_PREFIX}{seq}{OPERATION_SUFFIX}")?;
+        lines.push_str(line.as_str())?;
+    }
+    lines.push_str(request)?;
+    Ok(lines)
+}
+
+// Returns the number of bytes of all answers, and the longest write.
+fn measured(alloc: Global, count: u64, request: &str) -> Result<MeasuringWriter, RunFault> {
+    let lines = long_input(alloc, count, request)?;
+    let mut reader = CountingReader::new(lines.as_bytes());
+    let mut writer = CountingWriter::new(MeasuringWriter {
+        written: 0,
+        longest: 0,
+    });
+    let clock = ListClock::new(Vec::new(alloc));
+    run_session(alloc, clock, &mut reader, &mut writer)?;
+    Ok(writer.stream)
+}
+
+// The answers to 3,000 operations and to a listing of them have more than 350,000 bytes, and no
+// write has more than the 65,536 bytes of a full buffer and 64 operations.
+#[test]
+fn a_listing_is_written_while_it_is_read(rt: HostRuntime) {
+    for request in [
+        r#"{"a":"f","c":"b","d":"1","v":0}"#,
+        r#"{"a":"s","c":"b","d":"1","v":0}"#,
+    ] {
+        let writer = measured(rt.alloc(), 3_000, request);
+        let writer = writer.ok().expect(&rt, "a run to the end");
+        assert!(rt; 350_000 < writer.written, "{}", writer.written);
+        assert!(rt; writer.longest < 75_000, "{}", writer.longest);
+    }
 }

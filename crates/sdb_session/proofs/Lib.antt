@@ -1,4 +1,5 @@
 pub mod BatchLemmas
+pub mod ListingPartLemmas
 pub mod ResponseLemmas
 pub mod SubscriptionMapLemmas
 pub mod PumpLemmas

@@ -1,21 +1,22 @@
 -- The outcome of a request, from the desk's call and the answers to its reply.
-use Rattle.std.proofs.Common.{◌≡◌, ℕ, List, [], ◌∷◌, ◌++◌, map, true, false, Option, Some, None, Result, Ok, Err, OnOk, inr, refl, sym, ap, ◌∙◌, subst}
+use Rattle.std.proofs.Common.{◌≡◌, ℕ, List, [], ◌∷◌, ◌++◌, map, true, false, Option, Some, None, Result, Ok, Err, OnOk, inl, inr, refl, sym, ap, ◌∙◌, subst}
 use Rattle.sdb_oplog.specs.declared.codes.Code.{Code}
 use Rattle.sdb_oplog.specs.declared.codes.Code.TheVariants.{E9}
 use Rattle.sdb_oplog.specs.Plain.{PlainContent, PlainEntry, PlainSubmission}
 use Rattle.sdb_oplog.specs.Keys.{PlainKey}
 use Rattle.sdb_oplog.specs.Decide.{PlainReply, refused}
-use Rattle.sdb_desk.specs.Machine.{PlainFetchResult}
+use Rattle.sdb_desk.specs.Machine.{PlainFetchResult, PlainSubscribeResult}
 use Rattle.sdb_projection.specs.Table.{PlainProjection}
-use Rattle.sdb_submit.specs.Calls.{fetch as fetch_call, snapshot as snapshot_call, snapshot_at_time as at_time_call}
-use Rattle.sdb_submit.specs.SubmitLoop.{CallRelation, SubmitRelation, ListsAll, ListsPrefix}
+use Rattle.sdb_submit.specs.Calls.{fetch as fetch_call, snapshot as snapshot_call, snapshot_at_time as at_time_call, subscribe as subscribe_call}
+use Rattle.sdb_submit.specs.SubmitLoop.{CallRelation, SubmitRelation, ListsAll}
+use Rattle.sdb_session.specs.laws.ListingLaws.{reads_from_none}
 use Rattle.sdb_session.specs.Output.{answer_items, answer_texts}
 use Rattle.sdb_wire.specs.Wire.{PlainEcho, parse_message, PlainRequest, fetch, submit, snapshot, snapshot_at_time, subscribe}
 use Rattle.sdb_wire.specs.Answers.{PlainAnswer, answer_text, failed}
 use Rattle.sdb_session.specs.ProjectionModel.{base_of, base_key, projection_of_key, is_permitted}
 use Rattle.sdb_session.specs.Sessions.{PlainSession, queue_of, is_subscription_full, with_subscription}
 use Rattle.sdb_session.specs.View.{OutputUnlessFailed}
-use Rattle.sdb_session.specs.Responses.{PlainSubscribeReply, SubmitCalls, RefuseCalls, OpenAndTakeCalls, SubscribeCalls, submission_of, fetch_answers, list_answers, submit_answers, snapshot_answers, moment_answers, subscribe_answers, RequestInterrupted, SubscribeInterrupted, OutcomeOrInterrupted, RequestOutcome, MessageOutcome, TextOutcome}
+use Rattle.sdb_session.specs.Responses.{PlainSubscribeReply, SubmitCalls, RefuseCalls, CloseCalls, OpenCalls, OpenAndTakeCalls, SubscribeCalls, first_batch_len, submission_of, fetch_answers, list_answers, submit_answers, snapshot_answers, moment_answers, subscribe_answers, OutcomeOrInterrupted, RequestOutcome, MessageOutcome, TextOutcome}
 
 pub on_output : {A E : Type 0} (r : Result A E) (f : List PlainAnswer → Type 0) (a : List PlainAnswer) → OnOk r (f a) → OutputUnlessFailed r f a
 on_output (Ok x) f a h = h
@@ -80,21 +81,26 @@ module _ {P : Type 0} (acts : PlainKey → CallRelation P) (e : PlainEcho) (t : 
     pub not_joined_handles : (code : Code) → new ≡ s → OpenAndTakeCalls acts b v (queue_of k s.subs) p (Err code) q → says (failed e code ∷ []) → RequestOutcome acts e t by now s (subscribe k v) p says new q
     not_joined_handles code same h said = (Err code, (subscribe_of_join (Err code) h, same, said))
 
+    -- a queue that could not be kept was opened and closed again
+    pub unopened : (code : Code) → OpenCalls acts b v p (Err code) q → OpenAndTakeCalls acts b v (queue_of k s.subs) p (Err code) q
+    unopened code (inl h) = inl h
+    unopened code (inr (o, (m, (opens, ends, due)))) = inr (o, (m, (m, (opens, inl refl, ends, due))))
+
     pub joined_handles : (j : PlainSubscribeReply) → new ≡ with_subscription s k (record { base = b; id = j.opened.id }) → OpenAndTakeCalls acts b v (queue_of k s.subs) p (Ok j) q → says (subscribe_answers o k v j) → RequestOutcome acts e t by now s (subscribe k v) p says new q
     joined_handles j is h said =
         (Ok j, (subscribe_of_join (Ok j) h, is ∙ ap (λ x. with_subscription s k (record { base = x; id = j.opened.id })) (base_key_of_projection b base), subst (λ x. says (subscribe_answers x k v j)) seen said))
 
--- ---- interrupted requests
-
-module _ {P : Type 0} (acts : PlainKey → CallRelation P) (t : List PlainProjection) (p q : P) (k : PlainKey) (o : Option PlainProjection) (seen : o ≡ projection_of_key t k) (b : PlainKey) (base : b ≡ base_of o k) where
-  base_key_here : b ≡ base_key t k
-  base_key_here = base ∙ ap (λ y. base_of y k) seen
-
-  pub lists_broken : (from : ℕ) → ListsPrefix (acts b) from p q → RequestInterrupted acts t (fetch k (Some from)) p q
-  lists_broken from h = subst (λ y. ListsPrefix (acts y) from p q) base_key_here h
-
-  pub joins_broken : (v : Option ℕ) → SubscribeInterrupted acts b v p q → RequestInterrupted acts t (subscribe k v) p q
-  joins_broken v h = subst (λ y. SubscribeInterrupted acts y v p q) base_key_here h
+  -- a subscription without a version
+  pub document_handles : (v : Option ℕ) (none : v ≡ None) (b : PlainKey) (opened : PlainSubscribeResult) (mid new : PlainSession) (m : P) → is_subscription_full k s.subs ≡ false → b ≡ base_of o k
+      → acts b (subscribe_call v) p (Ok opened) m → mid ≡ s → CloseCalls acts (queue_of k mid.subs) m q → new ≡ with_subscription mid k (record { base = b; id = opened.id })
+      → says (subscribe_answers o k None (record { opened = opened; first = [] })) → RequestOutcome acts e t by now s (subscribe k v) p says new q
+  document_handles v none b opened mid new m full base opens same closes is said =
+      let j : PlainSubscribeReply = record { opened = opened; first = [] } in
+      let count : 0 ≡ first_batch_len v opened.version = ap (λ w. first_batch_len w opened.version) (sym none) in
+      let c = subst (λ (x : PlainSession). CloseCalls acts (queue_of k x.subs) m q) same closes in
+      joined_handles v b new full base j (is ∙ ap (λ x. with_subscription x k (record { base = b; id = opened.id })) same)
+      (m, (m, (opens, ([], (reads_from_none acts (Some opened.id) b 0 m, count, refl)), c)))
+      (subst (λ w. says (subscribe_answers o k w j)) (sym none) said)
 
 -- ---- equal answers
 

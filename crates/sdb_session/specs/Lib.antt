@@ -1,4 +1,6 @@
 pub mod Listing
+pub mod ListingView
+pub mod ProgressView
 pub mod Dialogue
 pub mod Responses
 pub mod ProjectionModel

@@ -86,6 +86,14 @@ module _ {P : Type 0} (acts : PlainKey → CallRelation P) where
       × ((m : P) × ((n : P) × (acts b (subscribe_call v) p (Ok o) m × TakesBatchPrefix (acts b) o.id m n
       × acts b (unsubscribe_call o.id) n tt q)))
 
+  -- a queue is opened; if the allocation for its subscription fails, it is closed again
+  abbrev pub OpenCalls : PlainKey → Option ℕ → P → Result PlainSubscribeResult Code → P → Type 0
+  OpenCalls b v p (Ok o) q = acts b (subscribe_call v) p (Ok o) q
+  OpenCalls b v p (Err code) q =
+      acts b (subscribe_call v) p (Err code) q
+      ⊎ ((o : PlainSubscribeResult) × ((m : P) × (acts b (subscribe_call v) p (Ok o) m × acts b (unsubscribe_call o.id) m tt q
+      × (code ≡ E10))))
+
   -- a queue is opened, its first entries are read, and the old queue is closed; if an allocation fails, the new queue
   -- is closed again
   abbrev pub OpenAndTakeCalls : PlainKey → Option ℕ → Option QueueId → P → Result PlainSubscribeReply Code → P → Type 0
@@ -148,11 +156,6 @@ snapshot_answers e o n (Err code) = failed e code ∷ []
 abbrev pub moment_answers : PlainEcho → Option PlainProjection → ℕ → Result PlainFetchResult Code → List PlainAnswer
 moment_answers e o n (Ok f) = at_time_answer n f.version (option_map (projected_value o) f.snapshot) ∷ []
 moment_answers e o n (Err code) = failed e code ∷ []
-
--- the last answer to a subscribe request: the document, or the end of the entries
-abbrev pub subscribe_end_answers : Option PlainProjection → PlainKey → Option ℕ → PlainSubscribeResult → List PlainAnswer
-subscribe_end_answers o k None s = subscribed k s.version (option_map (projected_value o) s.snapshot) ∷ []
-subscribe_end_answers o k (Some v) s = caught_up k ∷ []
 
 -- the document, or the entries from the requested version on
 abbrev pub subscribe_answers : Option PlainProjection → PlainKey → Option ℕ → PlainSubscribeReply → List PlainAnswer

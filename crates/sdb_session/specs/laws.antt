@@ -1,2 +1,3 @@
 pub mod BatchLaws
+pub mod ListingLaws
 pub mod SessionLaws

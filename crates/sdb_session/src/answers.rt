@@ -1,11 +1,11 @@
 //! The answers to one message, from a desk's replies.
-ghost use Rattle.std.specs.Prelude.{◌≡◌, ◌∷◌, [], ◌++◌, map, OnOk, option_map, Ok, Err};
+ghost use Rattle.std.specs.Prelude.{◌≡◌, ◌∷◌, [], ◌++◌, map, OnOk, option_map, Ok, Err, None};
 ghost use Rattle.sdb_desk.specs.ReplyView.{plain_reply};
 ghost use Rattle.sdb_oplog.specs.Keys.{plain_key};
 ghost use Rattle.sdb_session.specs.ProjectionModel.{projected_entry};
 ghost use Rattle.sdb_session.specs.Output.{answer_items};
 ghost use Rattle.sdb_session.specs.View.{plain_opened, plain_projection_option, echo_of_message, WroteAnswers};
-ghost use Rattle.sdb_session.specs.Responses.{entry_answers, submit_answers, subscribe_end_answers};
+ghost use Rattle.sdb_session.specs.Responses.{entry_answers, submit_answers, subscribe_answers, PlainSubscribeReply};
 ghost use Rattle.sdb_value.specs.View.{value_of};
 ghost use Rattle.sdb_wire.specs.Answers.{op_message, failed, subscribed};
 ghost use Rattle.sdb_wire.specs.View.{plain_answer};
@@ -141,26 +141,20 @@ pub(crate) fn write_reply<O: AnswerSink>(
     }
 }
 
-// Writes the last answer to a subscribe request: the document, or the end of the entries.
-pub(crate) fn write_subscribe_end<O: AnswerSink>(
+// Writes the document, as the answer to a subscribe request without a version.
+pub(crate) fn write_subscribed_document<O: AnswerSink>(
     alloc: Global,
     projection: Option<&Projection>,
     key: &Key,
-    version: Option<u64>,
     opened: SubscribeResult,
     out: &mut O,
 ) -> Result<(), AllocError>
     ensures { OnOk result (WroteAnswers O.items (O.contents out.old) (O.contents out.new)
-        (subscribe_end_answers (plain_projection_option projection.entry) (plain_key key.now) version
-        (plain_opened opened))) }
+        (subscribe_answers (plain_projection_option projection.entry) (plain_key key.now) None
+        (record { opened = plain_opened opened; first = [] }))) }
 {
-    match version {
-        None => {
-            let document = projected_document(alloc, projection, opened.snapshot)?;
-            write_subscribed(alloc, key, opened.version, document.as_ref(), out)
-        }
-        Some(_) => write_answer(alloc, &Answer::CaughtUp { key }, out),
-    }
+    let document = projected_document(alloc, projection, opened.snapshot)?;
+    write_subscribed(alloc, key, opened.version, document.as_ref(), out)
 }
 
 fn write_subscribed<'a, O: AnswerSink>(

@@ -5,12 +5,15 @@ mod answer_sink;
 mod answers;
 mod dispatch;
 mod interner;
+mod list_request;
 mod listing;
 mod projection;
 mod pump;
 mod session;
+mod subscribe_request;
 mod subscriptions;
 
 pub use answer_sink::AnswerSink;
+pub use listing::Listing;
 pub use pump::Pumped;
-pub use session::{Ended, Session};
+pub use session::{Ended, Progress, Session};

@@ -1,123 +1,145 @@
-//! Listings in batches, so that only one batch is in memory at a time.
-ghost use Rattle.std.specs.Prelude.{◌≡◌, if◌then◌else◌};
-ghost use Rattle.sdb_oplog.specs.Keys.{plain_key};
-ghost use Rattle.sdb_oplog.specs.declared.codes.Code.TheVariants.{E10};
-ghost use Rattle.sdb_session.specs.Listing.{ListOutcome, TakeOutcome};
-ghost use Rattle.sdb_session.specs.declared.listing.BatchFault.TheVariants.{OutOfMemory, Refused};
-ghost use Rattle.sdb_session.specs.Responses.{entry_answers};
+//! Listings: the entries of a log from a version on, or the first ones of a new queue, in batches.
+ghost use Rattle.std.specs.Prelude.{◌≡◌, ◌+◌, ◌<◌, ◌≤◌, [], ◌∷◌, IfOk, OnErr};
+ghost use Rattle.sdb_session.specs.Listing.{ReadsFrom, FailsToRead, ClosesNewQueue, entries_left};
+ghost use Rattle.sdb_session.specs.ListingView.{plain_listing, BatchOutcome};
 ghost use Rattle.sdb_session.specs.View.{plain_projection_option, WroteAnswers};
 
 use crate::answer_sink::AnswerSink;
 use crate::answers::write_entries;
 use crate::projection::DocumentRef;
 use crate::subscriptions::take_entries;
-use sdb_oplog::Code;
+use sdb_oplog::{Entry, Key};
+use sdb_projection::Projection;
 use sdb_submit::Desk;
 use sdb_subscribe::SubId;
 use std::alloc::{AllocError, Global};
 
 // Maximum number of entries read from a desk at once.
-const BATCH_LIMIT: u64 = 1_024;
+const BATCH_LIMIT: u64 = 64;
 
-// The reason why a listing failed.
+/// What is left of a listing: entries that its client hasn't been sent yet.
+///
+/// Nothing is written or read until the session continues it. A listing that isn't continued must
+/// be [abandoned](Listing::abandon).
 #[derive(Drop)]
-pub(crate) enum BatchFault {
-    // The message is refused; nothing was written.
-    Refused(Code),
-    // An allocation failed after a part was written.
-    OutOfMemory { error: AllocError },
+pub struct Listing {
+    // The client's key, and the base document's.
+    pub(crate) key: Key,
+    pub(crate) base: Key,
+    // The version of the next entry, and the one at which the listing ends.
+    pub(crate) next: u64,
+    pub(crate) end: u64,
+    // The new queue that delivers the entries, if the client subscribes.
+    pub(crate) queue: Option<SubId>,
 }
 
-impl From<Code> for BatchFault {
-    ghost use Rattle.sdb_session.specs.declared.listing.BatchFault.TheVariants.{Refused};
-
-    ghost from_gives = { λ code f. f ≡ Refused code };
-
-    fn from(code: Code) -> BatchFault {
-        BatchFault::Refused(code)
-    }
+// The reason why a batch failed.
+#[derive(Drop)]
+pub(crate) enum BatchFault {
+    // An allocation failed before anything was written.
+    NotRead { error: AllocError },
+    // An allocation failed for an answer.
+    NotWritten { error: AllocError },
 }
 
 impl From<AllocError> for BatchFault {
-    ghost use Rattle.sdb_session.specs.declared.listing.BatchFault.TheVariants.{OutOfMemory};
+    ghost use Rattle.sdb_session.specs.declared.listing.BatchFault.TheVariants.{NotWritten};
 
-    ghost from_gives = { λ e f. f ≡ OutOfMemory e };
+    ghost from_gives = { λ e f. f ≡ NotWritten e };
 
     fn from(error: AllocError) -> BatchFault {
-        BatchFault::OutOfMemory { error }
+        BatchFault::NotWritten { error }
     }
 }
 
-// An allocation failure in the first batch refuses the message; a later one ends the session.
-fn out_of_memory(is_first: bool, error: AllocError) -> BatchFault
-    ensures { result ≡ (if is_first then Refused E10 else OutOfMemory error) }
-{
-    if is_first {
-        BatchFault::Refused(Code::from(error))
-    } else {
-        BatchFault::OutOfMemory { error }
+impl Listing {
+    /// Returns the number of entries that are left.
+    pub fn entries_left(&self) -> u64
+        ensures { result ≡ entries_left (plain_listing self.now) }
+    {
+        self.end.saturating_sub(self.next)
     }
-}
 
-// Writes the entries from a version on, up to the current version.
-pub(crate) fn write_listing<D: Desk, O: AnswerSink>(
-    alloc: Global,
-    desk: &D,
-    pass: &mut D::Pass,
-    target: &DocumentRef<'_>,
-    from: u64,
-    out: &mut O,
-) -> Result<(), BatchFault>
-    requires accepted { D.accepts desk.now pass.old }
-    ensures accepted { D.accepts desk.now pass.new }
-    ensures number_unchanged { D.pass_number desk.now pass.new ≡ D.pass_number desk.now pass.old }
-    ensures listed { ListOutcome (D.step desk.now (plain_key target.now.base.now)) from
-        (λ es. WroteAnswers O.items (O.contents out.old) (O.contents out.new)
-        (entry_answers (plain_projection_option target.now.projection)
-        (plain_key target.now.key.now) es)) pass.old result pass.new }
-{
-    let present = desk.version(pass, target.base);
-    if present < from {
-        return Err(BatchFault::Refused(Code::E4));
-    }
-    let mut next = from;
-    while next < present {
-        let end = present.min(next.saturating_add(BATCH_LIMIT));
-        match desk.ops_between(pass, target.base, next, end) {
-            Ok(entries) => write_entries(alloc, target, entries.as_slice(), out)?,
-            Err(error) => return Err(out_of_memory(next == from, error)),
+    /// Closes the listing's queue, if it has one. It doesn't allocate.
+    pub fn abandon<D: Desk>(self, desk: &D, pass: &mut D::Pass)
+        requires accepted { D.accepts desk.now pass.old }
+        ensures accepted { D.accepts desk.now pass.new }
+        ensures number_unchanged { D.pass_number desk.now pass.new ≡ D.pass_number desk.now pass.old }
+        ensures closed { ClosesNewQueue (D.step desk.now) (plain_listing self).queue (plain_listing self).base
+            pass.old pass.new }
+    {
+        if let Some(id) = self.queue {
+            desk.unsubscribe(pass, &self.base, id);
         }
-        next = end;
     }
-    Ok(())
-}
 
-// Writes the next `count` entries of a queue, or fewer if the log ends before.
-pub(crate) fn write_next<D: Desk, O: AnswerSink>(
-    alloc: Global,
-    desk: &D,
-    pass: &mut D::Pass,
-    target: &DocumentRef<'_>,
-    id: SubId,
-    count: u64,
-    out: &mut O,
-) -> Result<(), BatchFault>
-    requires accepted { D.accepts desk.now pass.old }
-    ensures accepted { D.accepts desk.now pass.new }
-    ensures number_unchanged { D.pass_number desk.now pass.new ≡ D.pass_number desk.now pass.old }
-    ensures taken { TakeOutcome (D.step desk.now (plain_key target.now.base.now)) id count
-        (λ es. WroteAnswers O.items (O.contents out.old) (O.contents out.new)
-        (entry_answers (plain_projection_option target.now.projection)
-        (plain_key target.now.key.now) es)) pass.old result pass.new }
-{
-    let mut left = count;
-    while 0 < left {
-        let size = left.min(BATCH_LIMIT);
-        match take_entries(alloc, desk, pass, target.base, id, size) {
-            Ok(entries) => write_entries(alloc, target, entries.as_slice(), out)?,
-            Err(error) => return Err(out_of_memory(left == count, error)),
-        }
-        left -= size;
+    // Returns the version after so many of the entries that are left.
+    fn version_after(&self, size: u64) -> u64
+        requires some { 0 < size }
+        requires few { size ≤ entries_left (plain_listing self.now) }
+        ensures { result ≡ (plain_listing self.now).next + size }
+    {
+        // (a sum could overflow as far as the types tell)
+        self.end.saturating_sub(self.entries_left() - size)
     }
-    Ok(())
+
+    // Reads the next entries.
+    fn read<D: Desk>(
+        &self,
+        alloc: Global,
+        desk: &D,
+        pass: &mut D::Pass,
+        size: u64,
+    ) -> Result<Vec<Entry>, AllocError>
+        requires accepted { D.accepts desk.now pass.old }
+        requires some { 0 < size }
+        requires few { size ≤ entries_left (plain_listing self.now) }
+        ensures accepted { D.accepts desk.now pass.new }
+        ensures number_unchanged { D.pass_number desk.now pass.new ≡ D.pass_number desk.now pass.old }
+        ensures read { IfOk result (λ entries. ReadsFrom (D.step desk.now) (plain_listing self.now).queue
+            (plain_listing self.now).base (plain_listing self.now).next
+            (record { size = size; entries = entries.items } ∷ []) pass.old pass.new) }
+        ensures failed { OnErr result (FailsToRead (D.step desk.now) (plain_listing self.now).queue
+            (plain_listing self.now).base (plain_listing self.now).next (plain_listing self.now).end
+            pass.old pass.new) }
+    {
+        match self.queue {
+            None => desk.ops_between(pass, &self.base, self.next, self.version_after(size)),
+            Some(id) => take_entries(alloc, desk, pass, &self.base, id, size),
+        }
+    }
+
+    // Reads and writes the next entries, at most `BATCH_LIMIT`.
+    pub(crate) fn write_batch<D: Desk, O: AnswerSink>(
+        &mut self,
+        alloc: Global,
+        desk: &D,
+        pass: &mut D::Pass,
+        projection: Option<&Projection>,
+        out: &mut O,
+    ) -> Result<(), BatchFault>
+        requires accepted { D.accepts desk.now pass.old }
+        ensures accepted { D.accepts desk.now pass.new }
+        ensures number_unchanged { D.pass_number desk.now pass.new ≡ D.pass_number desk.now pass.old }
+        ensures batch { BatchOutcome (D.step desk.now) (plain_projection_option projection.entry) BATCH_LIMIT
+            (plain_listing self.old) pass.old result (WroteAnswers O.items (O.contents out.old) (O.contents out.new))
+            (plain_listing self.new) pass.new }
+    {
+        let size = self.entries_left().min(BATCH_LIMIT);
+        if size == 0 {
+            return Ok(());
+        }
+        let entries = match self.read(alloc, desk, pass, size) {
+            Ok(entries) => entries,
+            Err(error) => return Err(BatchFault::NotRead { error }),
+        };
+        let target = DocumentRef {
+            key: &self.key,
+            base: &self.base,
+            projection,
+        };
+        write_entries(alloc, &target, entries.as_slice(), out)?;
+        self.next = self.version_after(size);
+        Ok(())
+    }
 }

@@ -3,6 +3,8 @@ ghost use Rattle.std.specs.Prelude.{◌≡◌, ◌∷◌, [], true, false, IfOk,
 ghost use Rattle.std.specs.Result.{is_err, is_ok};
 ghost use Rattle.sdb_oplog.specs.declared.codes.Code.TheVariants.{E1};
 ghost use Rattle.sdb_session.specs.View.{WroteAnswers, has_ended, plain_session};
+ghost use Rattle.sdb_session.specs.Listing.{TextPart};
+ghost use Rattle.sdb_session.specs.ProgressView.{is_request_of, progress_result};
 ghost use Rattle.sdb_session.specs.Responses.{TextOutcome, TextInterrupted, OutcomeOrInterrupted};
 ghost use Rattle.sdb_wire.specs.Answers.{answer_text, init, failed};
 ghost use Rattle.sdb_wire.specs.Wire.{empty_echo, parse_message};
@@ -10,6 +12,7 @@ ghost use Rattle.sdb_wire.specs.Wire.{empty_echo, parse_message};
 use crate::answer_sink::AnswerSink;
 use crate::answers::{write_answer, write_refusal};
 use crate::interner::NameInterner;
+use crate::listing::Listing;
 use crate::subscriptions::Subscription;
 use indexmap::IndexMap;
 use sdb_json::Scratch;
@@ -29,6 +32,18 @@ const SCRATCH_LIMIT: usize = 4_096;
 #[derive(Clone, Copy, Drop)]
 pub struct Ended {
     error: AllocError,
+}
+
+/// What a session has done with a message.
+#[derive(Drop)]
+pub enum Progress {
+    /// All answers are written.
+    Done {
+        /// Whether the message is a request.
+        is_request: bool,
+    },
+    /// The first answers to a request are written, and this listing is left.
+    Listing(Listing),
 }
 
 impl From<Ended> for AllocError {
@@ -190,11 +205,50 @@ impl Session {
             (WroteAnswers O.items (O.contents out.old) (O.contents out.new))
             (plain_session self.old) pass.old (plain_session self.new) pass.new }
     {
+        let mut rest = match self.begin_to(desk, pass, table, text, now, out)? {
+            Progress::Done { is_request } => return Ok(is_request),
+            Progress::Listing(listing) => Some(listing),
+        };
+        while let Some(listing) = rest {
+            rest = self.continue_to(desk, pass, table, listing, out)?;
+        }
+        Ok(true)
+    }
+
+    /// Writes the answers to one message as [`Session::handle_to`] does, except that a listing is
+    /// left after its first 64 entries. [`Session::continue_to`] writes the rest; until then the
+    /// session should neither handle another message nor be pumped.
+    ///
+    /// # Errors
+    ///
+    /// As [`Session::handle_to`].
+    pub fn begin_to<D: Desk, O: AnswerSink>(
+        &mut self,
+        desk: &D,
+        pass: &mut D::Pass,
+        table: &Table,
+        text: &str,
+        now: Moment,
+        out: &mut O,
+    ) -> Result<Progress, Ended>
+        requires accepted { D.accepts desk.now pass.old }
+        ensures accepted { D.accepts desk.now pass.new }
+        ensures number_unchanged { D.pass_number desk.now pass.new ≡ D.pass_number desk.now pass.old }
+        ensures request { IfOk result (λ p. is_request_of p ≡ is_ok (parse_message text.now).request) }
+        ensures ended { has_ended self.new ≡ is_err result }
+        ensures stays_ended { has_ended self.old ≡ true → is_err result ≡ true }
+        // An ended session doesn't call the desk.
+        ensures no_call_after_end { has_ended self.old ≡ true →
+            (pass.new ≡ pass.old) × (plain_session self.new ≡ plain_session self.old) }
+        ensures outcome { TextPart (D.step desk.now) text.now table.now (D.pass_number desk.now pass.old) now
+            (plain_session self.old) pass.old (progress_result result)
+            (WroteAnswers O.items (O.contents out.old) (O.contents out.new)) (plain_session self.new) pass.new }
+    {
         if let Some(ended) = self.ended {
             return Err(ended);
         }
         match self.answer(desk, pass, table, text, now, out) {
-            Ok(is_request) => Ok(is_request),
+            Ok(progress) => Ok(progress),
             Err(error) => Err(self.end_with_error(error)),
         }
     }
@@ -207,36 +261,35 @@ impl Session {
         text: &str,
         now: Moment,
         out: &mut O,
-    ) -> Result<bool, AllocError>
+    ) -> Result<Progress, AllocError>
         requires accepted { D.accepts desk.now pass.old }
         ensures accepted { D.accepts desk.now pass.new }
         ensures number_unchanged { D.pass_number desk.now pass.new ≡ D.pass_number desk.now pass.old }
-        ensures request { IfOk result (λ b. b ≡ is_ok (parse_message text.now).request) }
+        ensures request { IfOk result (λ p. is_request_of p ≡ is_ok (parse_message text.now).request) }
         ensures ended_unchanged { self.new.ended ≡ self.old.ended }
-        ensures outcome { OutcomeOrInterrupted result
-            (TextOutcome (D.step desk.now) text.now table.now (D.pass_number desk.now pass.old) now
-            (plain_session self.old) pass.old)
-            (TextInterrupted (D.step desk.now) text.now table.now)
-            (WroteAnswers O.items (O.contents out.old) (O.contents out.new))
-            (plain_session self.old) pass.old (plain_session self.new) pass.new }
+        ensures outcome { TextPart (D.step desk.now) text.now table.now (D.pass_number desk.now pass.old) now
+            (plain_session self.old) pass.old (progress_result result)
+            (WroteAnswers O.items (O.contents out.old) (O.contents out.new)) (plain_session self.new) pass.new }
     {
         let mut scratch = self.take_scratch()?;
-        let is_request = {
+        let progress = {
             let Message { json, request } = parse_message(self.alloc, text, &mut scratch)?;
             let message = json.as_ref();
             match request {
                 Ok(request) => {
-                    self.answer_request(desk, pass, table, message, request, now, out)?;
-                    true
+                    match self.answer_request(desk, pass, table, message, request, now, out)? {
+                        Some(listing) => Progress::Listing(listing),
+                        None => Progress::Done { is_request: true },
+                    }
                 }
                 Err(code) => {
                     write_refusal(self.alloc, message, code, out)?;
-                    false
+                    Progress::Done { is_request: false }
                 }
             }
         };
         self.put_scratch_back(scratch, text);
-        Ok(is_request)
+        Ok(progress)
     }
 
     // Returns scratch memory: that of the last message, or a new one.

@@ -3,7 +3,7 @@ ghost use Rattle.std.specs.Prelude.{◌≡◌, option_map};
 ghost use Rattle.sdb_oplog.specs.Keys.{plain_key};
 ghost use Rattle.sdb_session.specs.PumpModel.{TakeCall};
 ghost use Rattle.sdb_session.specs.View.{queue_id_of, taken_entries_view};
-ghost use Rattle.sdb_session.specs.Responses.{first_batch_len, CloseCalls};
+ghost use Rattle.sdb_session.specs.Responses.{CloseCalls};
 
 use sdb_oplog::{Entry, Key};
 use sdb_submit::Desk;
@@ -49,15 +49,5 @@ pub(crate) fn take_entries<D: Desk>(
         Ok(Some(entries)) => Ok(entries),
         Ok(None) => Ok(Vec::new(alloc)),
         Err(error) => Err(error),
-    }
-}
-
-// Returns the number of entries from the requested version to the current one.
-pub(crate) fn first_batch_len(version: Option<u64>, present: u64) -> u64
-    ensures { result ≡ first_batch_len version present }
-{
-    match version {
-        Some(version) => present.saturating_sub(version),
-        None => 0,
     }
 }

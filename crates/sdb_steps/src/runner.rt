@@ -27,7 +27,7 @@ use crate::read::read_step;
 use crate::step::{Step, StepAnswer};
 use crate::world::World;
 use crate::write_answer::{write_refusal, write_step_answer};
-use sdb_lines::{Counts, LineHandler, RunFault, Sink, Source, run_lines};
+use sdb_lines::{Counts, LineHandler, LineProgress, RunFault, Sink, Source, run_lines};
 use sdb_oplog::Code;
 use sdb_wire::refusal_code;
 use std::alloc::{AllocError, Global};
@@ -100,11 +100,22 @@ pub fn run_steps(alloc: Global, steps: &[Step]) -> Result<Ran, AllocError>
 }
 
 impl LineHandler for World {
+    ghost use Rattle.sdb_steps.specs.declared.world.World.{World as WorldState};
+
+    ghost State = { WorldState };
+
+    ghost state = { λ w. w };
+
     ghost opening = { λ w. [] };
 
     ghost handles = { λ w line answer v.
         StepOrRefusal (reading_step line) (one_step_of_world w) (sessions_of w) answer (one_step_of_world v)
         (sessions_of v) };
+
+    // Each answer is appended whole.
+    ghost is_answering = { λ w line bytes v. ⊥ };
+
+    ghost parts_left = { λ w. 0 };
 
     ghost counts_as_step = { is_step };
 
@@ -112,20 +123,29 @@ impl LineHandler for World {
         Ok(())
     }
 
-    fn handle(&mut self, alloc: Global, line: &str, out: &mut Vec<u8>) -> Result<bool, AllocError> {
+    fn handle(
+        &mut self,
+        alloc: Global,
+        line: &str,
+        out: &mut Vec<u8>,
+    ) -> Result<LineProgress, AllocError> {
         match read_step(alloc, line) {
             Ok(step) => {
                 let session = step.session();
                 let answer = self.step(step);
                 write_step_answer(alloc, session, &answer, out)?;
                 out.push(b'\n')?;
-                Ok(true)
+                Ok(LineProgress::done(true))
             }
             Err(code) => {
                 write_unreadable(alloc, refusal_code(code)?, out)?;
-                Ok(false)
+                Ok(LineProgress::done(false))
             }
         }
+    }
+
+    fn continue_answer(&mut self, _alloc: Global, _out: &mut Vec<u8>) -> Result<bool, AllocError> {
+        Ok(true)
     }
 
     fn handle_unreadable(&mut self, alloc: Global, out: &mut Vec<u8>) -> Result<(), AllocError> {

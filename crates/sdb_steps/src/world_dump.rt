@@ -13,7 +13,7 @@ use crate::read::read_step;
 use crate::step::StepAnswer;
 use crate::world::World;
 use sdb_dump::write_dump;
-use sdb_lines::{LineHandler, RunFault, Sink, Source, run_lines};
+use sdb_lines::{LineHandler, LineProgress, RunFault, Sink, Source, run_lines};
 use sdb_wire::refusal_code;
 use std::alloc::{AllocError, Global};
 
@@ -44,10 +44,21 @@ struct SilentRunner {
 }
 
 impl LineHandler for SilentRunner {
+    ghost use Rattle.sdb_steps.specs.declared.world_dump.SilentRunner.{SilentRunner as Runner};
+
+    ghost State = { Runner };
+
+    ghost state = { λ w. w };
+
     ghost opening = { λ w. [] };
 
     ghost handles = { λ w line answer v. StepWithoutAnswer (reading_step line)
         (one_step_of_world w.world) (sessions_of w.world) answer (one_step_of_world v.world) (sessions_of v.world) };
+
+    // No answer is appended.
+    ghost is_answering = { λ w line bytes v. ⊥ };
+
+    ghost parts_left = { λ w. 0 };
 
     ghost counts_as_step = { is_step };
 
@@ -60,17 +71,21 @@ impl LineHandler for SilentRunner {
         alloc: Global,
         line: &str,
         _out: &mut Vec<u8>,
-    ) -> Result<bool, AllocError> {
+    ) -> Result<LineProgress, AllocError> {
         match read_step(alloc, line) {
             Ok(step) => {
                 check_allocated(&self.world.step(step))?;
-                Ok(true)
+                Ok(LineProgress::done(true))
             }
             Err(code) => {
                 refusal_code(code)?;
-                Ok(false)
+                Ok(LineProgress::done(false))
             }
         }
+    }
+
+    fn continue_answer(&mut self, _alloc: Global, _out: &mut Vec<u8>) -> Result<bool, AllocError> {
+        Ok(true)
     }
 
     fn handle_unreadable(&mut self, _alloc: Global, _out: &mut Vec<u8>) -> Result<(), AllocError> {

@@ -1,8 +1,12 @@
 -- Texts cut at an offset.
-use Rattle.std.proofs.Common.{◌≡◌, ℕ, zero, suc, ◌+◌, ◌-◌, ◌<◌, ◌≤◌, List, [], ◌∷◌, take, drop, Option, Some, None, option_map, Bool, true, false, leb, eqb, ◌⊎◌, inl, inr, refl, sym, arith}
+use Rattle.std.proofs.Common.{◌≡◌, ℕ, zero, suc, ◌+◌, ◌-◌, ◌<◌, ◌≤◌, min, List, [], ◌∷◌, ◌++◌, length, take, drop, Option, Some, None, option_map, Bool, true, false, leb, eqb, ◌⊎◌, inl, inr, refl, sym, arith}
 use Rattle.std.specs.Prelude.{if◌then◌else◌}
 use Rattle.std.proofs.lemmas.Bool.Decides.{nat_tests}
+use Rattle.sdb_component.specs.Plain.{sd}
 use Rattle.sdb_rope.specs.Utf16.{utf16_width, units, cut_at}
+use Rattle.sdb_transform.specs.Classification.{IsKindOfAct}
+use Rattle.sdb_transform.specs.Transform.{split_delete, delete_unless_empty, delete_without_overlap, sd_after_sd}
+use Rattle.sdb_transform.specs.declared.classify.TransformKind.{TransformKind}
 
 -- the cut is after the character, or before it
 record IsPastCut (b a : ℕ) (bs : List ℕ) (i : ℕ) : Type 0 where
@@ -68,3 +72,35 @@ cut_mono (x ∷ d) a b i j g h l =
         | inr q ↦ absurd (omega (arith, p.fits, q.start, q.wide))
       ]
     ]
+
+inside_text : (d : List ℕ) (i : ℕ) → units (take i d) < units d → i < length d
+inside_text [] zero h = absurd (omega (arith, h))
+inside_text [] (suc i) h = absurd (omega (arith, h))
+inside_text (b ∷ d) zero h = omega arith
+inside_text (b ∷ d) (suc i) h = let r : i < length d = inside_text d i (omega (arith, h)) in omega (arith, r)
+
+after_start : (d : List ℕ) (i : ℕ) → 0 < units (take i d) → 0 < i
+after_start d zero h = absurd (omega (arith, h))
+after_start d (suc i) h = omega arith
+
+-- a cut after some code units, with some left, is inside the text
+pub inner_cut : (d : List ℕ) (a i : ℕ) → cut_at d a ≡ Some i → 0 < a → a < units d → (0 < i) × (i < length d)
+inner_cut d a i e low high =
+    let u : units (take i d) ≡ a = cut_prefix d a i e in
+    (after_start d i (omega (arith, u)), inside_text d i (omega (arith, u)))
+
+-- ---- the texts that cuts leave
+
+pub split_delete_cut : (p : ℕ) (d : List ℕ) (a q i : ℕ) → cut_at d a ≡ Some i → split_delete p d a q ≡ Some (sd p (take i d) ∷ sd q (drop i d) ∷ [])
+split_delete_cut p d a q i e = rw e refl
+
+pub delete_without_overlap_cut : (q : ℕ) (d : List ℕ) (a b i j : ℕ) → cut_at d a ≡ Some i → cut_at d b ≡ Some j → delete_without_overlap q d a b ≡ Some (delete_unless_empty q (take i d ++ drop j d))
+delete_without_overlap_cut q d a b i j e f = rw (e, f) refl
+
+-- two deletions that overlap
+pub overlap_kind : (k : TransformKind) (p r : ℕ) (d d2 : List ℕ) (q a b : ℕ) → q ≡ min p r → a ≡ r - p → b ≡ min (units d) (r + units d2 - p) → p < r + units d2 → r < p + units d
+    → IsKindOfAct k (sd p d) (sd r d2) (delete_without_overlap q d a b) → IsKindOfAct k (sd p d) (sd r d2) (sd_after_sd p d r d2)
+overlap_kind k p r d d2 q a b e f g low high h =
+    let t : leb (r + units d2) p ≡ false = grind (arith, nat_tests) in
+    let u : leb (p + units d) r ≡ false = grind (arith, nat_tests) in
+    rw (t, u, ← e, ← f, ← g) h

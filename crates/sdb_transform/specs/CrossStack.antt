@@ -1,11 +1,14 @@
 -- Vectors as stacks, from the top, and the view of a crossing.
-use Rattle.std.specs.Prelude.{◌⊎◌, ◌≡◌, ℕ, ◌-◌, ◌^◌, min, List, ◌++◌, map, reverse, Some, None, ⊤}
+use Rattle.std.specs.Arc.{arc_value}
+use Rattle.std.specs.Prelude.{◌⊎◌, ◌≡◌, ℕ, ◌-◌, ◌^◌, min, List, ◌++◌, map, reverse, Option, Some, None, ⊤}
 use Rattle.sdb_component.specs.Plain.{PlainComponent}
 use Rattle.sdb_component.specs.Weight.{component_weight}
 use Rattle.sdb_transform.specs.declared.cross_stack.Frame.{Frame}
 use Rattle.sdb_transform.specs.declared.cross_stack.Frame.TheVariants.{LeftFrame, RightFrame}
 use Rattle.sdb_transform.specs.declared.cross_stack.CrossState.{CrossState}
 use Rattle.sdb_transform.specs.declared.op_transform.Crossed.{Crossed}
+use Rattle.sdb_transform.specs.declared.op_transform.TransformedOp.{TransformedOp}
+use Rattle.sdb_transform.specs.declared.op_transform.TransformedOp.TheVariants.{Unchanged, New}
 use Rattle.sdb_transform.specs.declared.side.Fault.{Fault}
 use Rattle.sdb_transform.specs.declared.side.Fault.TheVariants.{OutOfMemory, NotTransformed}
 use Rattle.sdb_transform.specs.declared.side.Side.TheVariants.{Left, Right}
@@ -38,6 +41,11 @@ abbrev pub IsResultOfCross : Crossed → CrossResult → Type 0
 IsResultOfCross c o =
     (x : Crossing PlainComponent) × (o ≡ Some x) × (c.left ≡ x.left) × (c.right ≡ x.right)
     × (c.pairs ≡ min x.pairs (2 ^ 128 - 1))
+
+-- the operation as it was passed, or a new one; the transform in both cases
+abbrev pub IsOpTransform : List PlainComponent → TransformedOp → Option (List PlainComponent) → Type 0
+IsOpTransform op (Unchanged same) o = (arc_value same ≡ op) × (o ≡ Some op)
+IsOpTransform op (New made) o = o ≡ Some made
 
 -- one of both transforms is refused, or an allocation failed
 abbrev pub IsCrossFault : PlainComponent → PlainComponent → Fault → Type 0

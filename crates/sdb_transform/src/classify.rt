@@ -1,20 +1,17 @@
 //! Classification of a transform by the paths and positions of both components: whether it is
-//! refused, and whether it changes only the component's position.
-ghost use Rattle.std.specs.Prelude.{◌≡◌, Some, IfOk, IfErr};
+//! refused, changes only the component's position, or rewrites the component.
+ghost use Rattle.std.specs.Prelude.{◌≡◌, Some};
 ghost use Rattle.sdb_component.specs.View.{plain_act};
-ghost use Rattle.sdb_value.specs.View.{plain_step};
-ghost use Rattle.sdb_transform.specs.ActModel.{IsPairFault};
-ghost use Rattle.sdb_transform.specs.Classification.{IsKindOfComponent, IsKindOfStep, reposition_component, with_position, transformed_components};
-ghost use Rattle.sdb_transform.specs.Transform.{update_removed, transform_step, transform, strip_removed_path};
+ghost use Rattle.sdb_transform.specs.Classification.{IsFeasible, transform_by_kind, reposition_component, with_position, transformed_components};
+ghost use Rattle.sdb_transform.specs.Transform.{update_removed, transform, strip_removed_path};
 
 use crate::classify_act::classify_act;
+use crate::classify_path::{classify_step, strip_prefix};
 use crate::component_list::Transformed;
-use crate::component_transform::transform_one;
-use crate::path_transform::{StepChange, strip_prefix, transform_step};
-use crate::removed_value::{removed_value, strip_removed_path};
-use crate::side::{Fault, Side};
+use crate::removed_value::removes_value_at;
+use crate::rewrite::Rewrite;
+use crate::side::Side;
 use sdb_component::{Act, Component};
-use sdb_value::Step;
 use std::alloc::Global;
 
 // The change of a component whose texts and values are unchanged.
@@ -32,17 +29,19 @@ pub(crate) enum TransformKind {
     Refused,
     PositionOnly(PositionChange),
     // More than the offset or index changes.
-    Rewritten,
+    Rewritten(Rewrite),
 }
 
 pub(crate) fn classify(component: &Component, other: &Component, side: Side) -> TransformKind
-    ensures { IsKindOfComponent result component.now (transform side component.now other.now) }
+    ensures kind { transform side component.now other.now
+        ≡ transform_by_kind result component.now other.now }
+    ensures feasible { IsFeasible result component.now other.now }
 {
     match strip_prefix(other.path(), component.path()) {
         None => classify_disjoint(component, other),
         Some(rest) => match rest {
             [] => classify_act(component.act(), other.act(), side),
-            [step, ..] => classify_below(step, other.act()),
+            [step, ..] => classify_step(step, other.act()),
         },
     }
 }
@@ -50,27 +49,14 @@ pub(crate) fn classify(component: &Component, other: &Component, side: Side) -> 
 // Classifies a component that isn't at or inside the other's container. Only the removal of a value
 // in which the other component works is rewritten.
 fn classify_disjoint(component: &Component, other: &Component) -> TransformKind
-    ensures { IsKindOfComponent result component.now
-        (Some (update_removed component.now other.now (strip_removed_path component.now other.now.path))) }
+    ensures kind { Some (update_removed component.now other.now (strip_removed_path component.now other.now.path))
+        ≡ transform_by_kind result component.now other.now }
+    ensures feasible { IsFeasible result component.now other.now }
 {
-    if !removed_value(component.act()) {
-        return TransformKind::PositionOnly(PositionChange::Unchanged);
-    }
-    match strip_removed_path(component.path(), component.act(), other.path()) {
-        Some(_) => TransformKind::Rewritten,
-        None => TransformKind::PositionOnly(PositionChange::Unchanged),
-    }
-}
-
-// Classifies a component inside the other's container, by its path's step there.
-fn classify_below(step: &Step, other: &Act) -> TransformKind
-    ensures { IsKindOfStep result (plain_step step.now) (transform_step (plain_act other.now) (plain_step step.now)) }
-{
-    match transform_step(other, step) {
-        Ok(StepChange::Unchanged) => TransformKind::PositionOnly(PositionChange::Unchanged),
-        Ok(StepChange::Removed) => TransformKind::PositionOnly(PositionChange::Dropped),
-        Ok(StepChange::MovedTo(_)) => TransformKind::Rewritten,
-        Err(_) => TransformKind::Refused,
+    if removes_value_at(component, other.path()) {
+        TransformKind::Rewritten(Rewrite::UpdatedValue)
+    } else {
+        TransformKind::PositionOnly(PositionChange::Unchanged)
     }
 }
 
@@ -102,25 +88,5 @@ fn with_position(act: Act, position: u64) -> Act
         Act::Ld(_, x) => Act::Ld(position, x),
         Act::Lr(_, w, z) => Act::Lr(position, w, z),
         other => other,
-    }
-}
-
-// Transforms a component against another one.
-pub(crate) fn transform_against(
-    alloc: Global,
-    component: Component,
-    other: &Component,
-    side: Side,
-) -> Result<Transformed, Fault>
-    ensures ok { IfOk result (λ s. transform side component other.now ≡ Some (transformed_components s)) }
-    ensures err { IfErr result (λ f. IsPairFault f (transform side component other.now)) }
-{
-    match classify(&component, other, side) {
-        TransformKind::Refused => Err(Fault::NotTransformed),
-        TransformKind::PositionOnly(to) => Ok(reposition_component(alloc, component, to)),
-        TransformKind::Rewritten => {
-            let pieces = transform_one(alloc, component, other, side)?;
-            Ok(Transformed::Many(pieces))
-        }
     }
 }

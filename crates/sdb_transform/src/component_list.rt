@@ -1,10 +1,9 @@
 //! Lists of components.
-ghost use Rattle.std.specs.Prelude.{◌≡◌, ◌∷◌, [], Some};
-ghost use Rattle.sdb_transform.specs.ActModel.{MatchesComponents};
+ghost use Rattle.std.specs.Prelude.{◌≡◌, IfOk, IfErr};
+ghost use Rattle.sdb_transform.specs.Classification.{transformed_components};
 
-use crate::side::Fault;
-use sdb_component::Component;
-use std::alloc::Global;
+use sdb_component::{Component, Op};
+use std::alloc::{AllocError, Global};
 
 // The components that replace one. A single one doesn't allocate.
 #[derive(Drop)]
@@ -13,32 +12,22 @@ pub(crate) enum Transformed {
     Many(Vec<Component>),
 }
 
-pub(crate) fn one_component(alloc: Global, component: Component) -> Result<Vec<Component>, Fault>
-    ensures { MatchesComponents result (Some (component ∷ [])) }
-{
-    let mut components = Vec::with_capacity(alloc, 1)?;
-    components.push(component)?;
-    Ok(components)
-}
-
-pub(crate) fn two_components(
-    alloc: Global,
-    first: Component,
-    second: Component,
-) -> Result<Vec<Component>, Fault>
-    ensures { MatchesComponents result (Some (first ∷ second ∷ [])) }
-{
-    let mut components = Vec::with_capacity(alloc, 2)?;
-    components.push(first)?;
-    components.push(second)?;
-    Ok(components)
+impl Transformed {
+    pub(crate) fn into_op(self) -> Op
+        ensures { result ≡ transformed_components self }
+    {
+        match self {
+            Transformed::One(component) => Op::one(component),
+            Transformed::Many(components) => Op::new(components),
+        }
+    }
 }
 
 pub(crate) fn clone_components(
     alloc: Global,
     components: &[Component],
-) -> Result<Vec<Component>, Fault>
-    ensures { MatchesComponents result (Some components.now) }
+) -> Result<Vec<Component>, AllocError>
+    ensures { IfOk result (λ copies. copies.items ≡ components.now) }
 {
     let mut copies = Vec::with_capacity(alloc, components.len())?;
     for component in components {

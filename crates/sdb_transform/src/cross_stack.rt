@@ -3,16 +3,17 @@ ghost use Rattle.std.specs.Prelude.{◌≡◌, ◌<◌, nat_le, ◌∷◌, [], �
 ghost use Rattle.sdb_component.specs.Size.{component_size};
 ghost use Rattle.sdb_transform.specs.ActModel.{IsTransformFault, saturated_size};
 ghost use Rattle.sdb_transform.specs.Cross.{CrossResult};
-ghost use Rattle.sdb_transform.specs.Classification.{transformed_components};
+ghost use Rattle.sdb_transform.specs.Classification.{IsRewrite, rewrite_component, transformed_components};
 ghost use Rattle.sdb_transform.specs.CrossStack.{from_top, work_from_top, work_item_of, IsCrossFault, StateInvariantWith, step_bound_with};
 ghost use Rattle.sdb_transform.specs.Transform.{transform};
 ghost use Rattle.sdb_transform.specs.CrossMachine.{RightChange, LeftChanges, right_frames};
 ghost use Rattle.sdb_transform.specs.declared.side.Fault.TheVariants.{OutOfMemory};
 ghost use Rattle.sdb_transform.specs.declared.side.Side.TheVariants.{Left, Right};
 
-use crate::classify::{TransformKind, classify, reposition_component, transform_against};
+use crate::classify::{TransformKind, classify, reposition_component};
 use crate::component_list::Transformed;
-use crate::component_transform::transform_one;
+use crate::component_transform::transform_by_kind;
+use crate::rewrite::{Rewrite, rewrite_component};
 use crate::side::{Fault, Side};
 use sdb_component::Component;
 use std::alloc::Global;
@@ -154,61 +155,50 @@ fn transform_pair(
     ensures right { IfOk result (λ p. transform Right right left ≡ Some (transformed_components p.1)) }
     ensures err { IfErr result (λ f. IsCrossFault left right f) }
 {
-    match classify(&right, &left, Side::Right) {
+    let of_left = classify(&left, &right, Side::Left);
+    let of_right = classify(&right, &left, Side::Right);
+    match of_left {
         TransformKind::Refused => Err(Fault::NotTransformed),
         TransformKind::PositionOnly(to) => {
-            let pieces = transform_against(alloc, left, &right, Side::Left)?;
-            Ok((pieces, reposition_component(alloc, right, to)))
+            let run = transform_by_kind(alloc, right, &left, of_right)?;
+            Ok((reposition_component(alloc, left, to), run))
         }
-        TransformKind::Rewritten => transform_rewritten(alloc, left, right),
+        TransformKind::Rewritten(of_left) => match of_right {
+            TransformKind::Refused => Err(Fault::NotTransformed),
+            TransformKind::PositionOnly(to) => {
+                let pieces = rewrite_component(alloc, left, &right, of_left)?;
+                Ok((pieces, reposition_component(alloc, right, to)))
+            }
+            TransformKind::Rewritten(of_right) => {
+                rewrite_pair(alloc, left, right, of_left, of_right)
+            }
+        },
     }
 }
 
-// Transforms both if the right one is rewritten.
-fn transform_rewritten(
-    alloc: Global,
-    left: Component,
-    right: Component,
-) -> Result<(Transformed, Transformed), Fault>
-    ensures left { IfOk result (λ p. transform Left left right ≡ Some (transformed_components p.0)) }
-    ensures right { IfOk result (λ p. transform Right right left ≡ Some (transformed_components p.1)) }
-    ensures err { IfErr result (λ f. IsCrossFault left right f) }
-{
-    match classify(&left, &right, Side::Left) {
-        TransformKind::Refused => Err(Fault::NotTransformed),
-        TransformKind::PositionOnly(to) => {
-            let run = transform_one(alloc, right, &left, Side::Right)?;
-            Ok((
-                reposition_component(alloc, left, to),
-                Transformed::Many(run),
-            ))
-        }
-        TransformKind::Rewritten => {
-            let (pieces, run) = rewrite_pair(alloc, left, right)?;
-            Ok((Transformed::Many(pieces), Transformed::Many(run)))
-        }
-    }
-}
-
-// Transforms both if both are rewritten. The smaller one is cloned.
+// Rewrites both. The smaller one is cloned.
 fn rewrite_pair(
     alloc: Global,
     left: Component,
     right: Component,
-) -> Result<(Vec<Component>, Vec<Component>), Fault>
-    ensures left { IfOk result (λ p. transform Left left right ≡ Some p.0.items) }
-    ensures right { IfOk result (λ p. transform Right right left ≡ Some p.1.items) }
-    ensures err { IfErr result (λ f. IsCrossFault left right f) }
+    of_left: Rewrite,
+    of_right: Rewrite,
+) -> Result<(Transformed, Transformed), Fault>
+    requires left { IsRewrite of_left left right }
+    requires right { IsRewrite of_right right left }
+    ensures left { IfOk result (λ p. transformed_components p.0 ≡ rewrite_component of_left left right) }
+    ensures right { IfOk result (λ p. transformed_components p.1 ≡ rewrite_component of_right right left) }
+    ensures err { IfErr result (λ f. f ≡ OutOfMemory) }
 {
     if weight_not_larger(&left, &right) {
         let copy = left.try_clone()?;
-        let pieces = transform_one(alloc, copy, &right, Side::Left)?;
-        let run = transform_one(alloc, right, &left, Side::Right)?;
+        let pieces = rewrite_component(alloc, copy, &right, of_left)?;
+        let run = rewrite_component(alloc, right, &left, of_right)?;
         Ok((pieces, run))
     } else {
         let copy = right.try_clone()?;
-        let run = transform_one(alloc, copy, &left, Side::Right)?;
-        let pieces = transform_one(alloc, left, &right, Side::Left)?;
+        let run = rewrite_component(alloc, copy, &left, of_right)?;
+        let pieces = rewrite_component(alloc, left, &right, of_left)?;
         Ok((pieces, run))
     }
 }

@@ -1,18 +1,19 @@
 //! Transforms of operations.
 ghost use Rattle.std.specs.Arc.{arc_value};
-ghost use Rattle.std.specs.Prelude.{◌≡◌, ◌≤◌, ◌*◌, List, ◌∷◌, [], IfOk, IfErr, Some, unwrap_or};
+ghost use Rattle.std.specs.Prelude.{◌≡◌, ◌≤◌, ◌*◌, List, ◌∷◌, [], IfOk, IfErr, Some};
 ghost use Rattle.sdb_component.specs.Plain.{PlainComponent};
 ghost use Rattle.sdb_component.specs.Weight.{weight};
 ghost use Rattle.sdb_transform.specs.ActModel.{IsTransformFault};
 ghost use Rattle.sdb_transform.specs.Cross.{cross_ops, transform_op};
 ghost use Rattle.sdb_transform.specs.Classification.{transformed_components};
-ghost use Rattle.sdb_transform.specs.CrossStack.{IsResultOfCross};
+ghost use Rattle.sdb_transform.specs.CrossStack.{IsResultOfCross, IsOpTransform};
+ghost use Rattle.sdb_transform.specs.declared.side.Fault.TheVariants.{OutOfMemory};
 ghost use Rattle.sdb_transform.specs.Transform.{transform};
 
-use crate::classify::{TransformKind, classify, transform_against};
+use crate::classify::{TransformKind, classify};
 use crate::commutes::commute_unchanged;
 use crate::component_list::{Transformed, clone_components};
-use crate::component_transform::transform_one;
+use crate::component_transform::transform_against;
 use crate::cross_stack::{CrossState, pop_right, push_right, push_split, stack_order};
 use crate::side::{Fault, Side};
 use sdb_component::{Component, Op};
@@ -72,8 +73,8 @@ fn cross_one(alloc: Global, left: &Component, right: &Component) -> Result<Cross
     let pieces = transform_borrowed(alloc, left, right, Side::Left)?;
     let run = transform_borrowed(alloc, right, left, Side::Right)?;
     Ok(Crossed {
-        left: Op::new(pieces),
-        right: Op::new(run),
+        left: pieces.into_op(),
+        right: run.into_op(),
         pairs: 1,
     })
 }
@@ -84,11 +85,12 @@ fn transform_borrowed(
     component: &Component,
     other: &Component,
     side: Side,
-) -> Result<Vec<Component>, Fault>
-    ensures ok { IfOk result (λ v. transform side component.now other.now ≡ Some v.items) }
+) -> Result<Transformed, Fault>
+    ensures ok { IfOk result (λ t. transform side component.now other.now
+        ≡ Some (transformed_components t)) }
     ensures err { IfErr result (λ f. IsTransformFault f (transform side component.now other.now)) }
 {
-    transform_one(alloc, component.try_clone()?, other, side)
+    transform_against(alloc, component.try_clone()?, other, side)
 }
 
 // Crosses owned operations of any length.
@@ -115,8 +117,20 @@ fn cross_many(alloc: Global, left: Vec<Component>, right: Vec<Component>) -> Res
     })
 }
 
+/// An operation transformed against another one.
+#[derive(Drop)]
+pub enum TransformedOp {
+    /// The operation as it was passed: both operations are known to be unchanged.
+    Unchanged(Arc<Op>),
+    /// A new operation.
+    New(Op),
+}
+
 /// Transforms an operation against a concurrent one that was applied before it: the part of `cross`
-/// for this side. The other operation isn't cloned while the transformed one is a single component.
+/// for this side.
+///
+/// Nothing is cloned if both operations are known to be unchanged. A unique operation made by
+/// [`Op::one`] isn't cloned, and the other one isn't while the transformed one is a single component.
 ///
 /// # Errors
 ///
@@ -124,78 +138,56 @@ fn cross_many(alloc: Global, left: Vec<Component>, right: Vec<Component>) -> Res
 ///
 /// ```
 /// // `op` is [{"li":1,"p":[0]}], and `other` is [{"li":2,"p":[0]}].
-/// let after = transform(alloc, &op, &other, Side::Right)?;
+/// let TransformedOp::New(after) = transform(alloc, op, &other, Side::Right)? else {
+///     return Ok(());
+/// };
 /// let text = op_value(alloc, &after)?.to_string(alloc)?;
 /// assert_eq!(rt; text.as_str(), r#"[{"li":1,"p":[1]}]"#);
 /// ```
-pub fn transform(alloc: Global, op: &Op, other: &Op, side: Side) -> Result<Op, Fault>
-    ensures ok { IfOk result (λ t. transform_op side op.now other.now ≡ Some t) }
-    ensures err { IfErr result (λ f. IsTransformFault f (transform_op side op.now other.now)) }
+pub fn transform(alloc: Global, op: Arc<Op>, other: &Op, side: Side) -> Result<TransformedOp, Fault>
+    ensures ok { IfOk result (λ t. IsOpTransform (arc_value op) t
+        (transform_op side (arc_value op) other.now)) }
+    ensures err { IfErr result (λ f. IsTransformFault f
+        (transform_op side (arc_value op) other.now)) }
 {
-    match op.components() {
-        [component] => {
-            let copy = component.try_clone()?;
-            transform_one_against_all(alloc, copy, other.components(), side)
-        }
-        components => transform_all_against_all(
+    if commute_unchanged(op.components(), other.components(), side) {
+        return Ok(TransformedOp::Unchanged(op));
+    }
+    let transformed = match owned_components(alloc, op)? {
+        Transformed::One(component) => transform_one_against_all(
             alloc,
-            clone_components(alloc, components)?,
+            component,
             other.components(),
             side,
-        ),
-    }
-}
-
-/// Transforms an operation as [`transform`] does, or returns `None` if both operations are known to
-/// be unchanged. Nothing is cloned then.
-///
-/// # Errors
-///
-/// As [`cross`].
-pub fn transform_if_changed(
-    alloc: Global,
-    op: &Op,
-    other: &Op,
-    side: Side,
-) -> Result<Option<Op>, Fault>
-    ensures ok { IfOk result (λ t. transform_op side op.now other.now ≡ Some (unwrap_or t op.now)) }
-    ensures err { IfErr result (λ f. IsTransformFault f (transform_op side op.now other.now)) }
-{
-    if commute_unchanged(op.components(), other.components(), side) {
-        return Ok(None);
-    }
-    let transformed = transform(alloc, op, other, side)?;
-    Ok(Some(transformed))
-}
-
-/// Transforms an owned operation as [`transform`] does. It is returned as it is if both are known
-/// to be unchanged. A unique operation made by [`Op::one`] isn't cloned.
-///
-/// # Errors
-///
-/// As [`cross`].
-pub fn transform_owned(alloc: Global, op: Arc<Op>, other: &Op, side: Side) -> Result<Arc<Op>, Fault>
-    ensures ok { IfOk result (λ t. transform_op side (arc_value op) other.now ≡ Some (arc_value t)) }
-    ensures err { IfErr result (λ f. IsTransformFault f (transform_op side (arc_value op) other.now)) }
-{
-    if commute_unchanged(op.components(), other.components(), side) {
-        return Ok(op);
-    }
-    let transformed = match Arc::try_unwrap(op) {
-        Ok(op) => transform_owned_against(alloc, op, other, side)?,
-        Err(op) => transform(alloc, &op, other, side)?,
+        )?,
+        Transformed::Many(components) => transform_all_against_all(
+            alloc,
+            components,
+            other.components(),
+            side,
+        )?,
     };
-    Ok(Arc::new(alloc, transformed)?)
+    Ok(TransformedOp::New(transformed))
 }
 
-// Transforms an owned operation. One made by `Op::one` isn't cloned.
-fn transform_owned_against(alloc: Global, op: Op, other: &Op, side: Side) -> Result<Op, Fault>
-    ensures ok { IfOk result (λ t. transform_op side op other.now ≡ Some t) }
-    ensures err { IfErr result (λ f. IsTransformFault f (transform_op side op other.now)) }
+// Returns the components of an operation, cloned unless it is unique. A single one is returned
+// without a vector, so that the other operation isn't cloned.
+fn owned_components(alloc: Global, op: Arc<Op>) -> Result<Transformed, Fault>
+    ensures ok { IfOk result (λ t. transformed_components t ≡ arc_value op) }
+    ensures err { IfErr result (λ f. f ≡ OutOfMemory) }
 {
-    match op.into_one() {
-        Ok(component) => transform_one_against_all(alloc, component, other.components(), side),
-        Err(op) => transform(alloc, &op, other, side),
+    match Arc::try_unwrap(op) {
+        Ok(op) => match op.into_one() {
+            Ok(component) => Ok(Transformed::One(component)),
+            Err(op) => match op.components() {
+                [component] => Ok(Transformed::One(component.try_clone()?)),
+                _ => Ok(Transformed::Many(op.into_components(alloc)?)),
+            },
+        },
+        Err(shared) => match shared.components() {
+            [component] => Ok(Transformed::One(component.try_clone()?)),
+            components => Ok(Transformed::Many(clone_components(alloc, components)?)),
+        },
     }
 }
 

@@ -1,81 +1,47 @@
 //! Updates of removed values.
 ghost use Rattle.std.specs.Arc.{arc_value};
-ghost use Rattle.std.specs.Prelude.{◌≡◌, IfOk, IfErr, option_map};
+ghost use Rattle.std.specs.Prelude.{◌≡◌, IfOk, IfErr};
 ghost use Rattle.sdb_value.specs.View.{value_of, plain_step, plain_path};
-ghost use Rattle.sdb_component.specs.View.{plain_act};
+ghost use Rattle.sdb_component.specs.View.{plain_act, arc_json_value};
 ghost use Rattle.std.specs.Option.{is_some};
 ghost use Rattle.sdb_transform.specs.Transform.{removed_step, strip_removed_path, updated_value, map_removed, component_at, removes_step};
-ghost use Rattle.sdb_value.specs.Value.{index, key, steps_equal};
 ghost use Rattle.sdb_transform.specs.declared.side.Fault.TheVariants.{OutOfMemory};
 
-use crate::path_transform::strip_prefix;
-use crate::rewrite_object::keys_equal;
+use crate::classify_path::{keys_equal, strip_prefix};
 use crate::side::Fault;
 use sdb_apply::{ApplyFault, apply_at};
-use sdb_component::Act;
+use sdb_component::{Act, Component};
 use sdb_value::{Json, Step};
 use std::alloc::{AllocError, Global};
 use std::sync::Arc;
 
-// Returns whether the act removes the value of this step.
-fn removed_step(act: &Act, step: &Step) -> bool
-    ensures { result ≡ removes_step (plain_act act.now) (plain_step step.now) }
+// Returns whether the component removes a value at or inside which the other path ends.
+pub(crate) fn removes_value_at(component: &Component, other: &[Step]) -> bool
+    ensures { result ≡ is_some (strip_removed_path component.now (plain_path other.now)) }
 {
-    match act {
-        Act::Ld(index, _) => removes_index(*index, step),
-        Act::Lr(index, _, _) => removes_index(*index, step),
-        Act::Od(key, _) => removes_key(key.as_str(), step),
-        Act::Or(key, _, _) => removes_key(key.as_str(), step),
+    if !removes_value(component.act()) {
+        return false;
+    }
+    match strip_prefix(component.path(), other) {
+        Some([step, ..]) => removes_step(component.act(), step),
         _ => false,
     }
 }
 
-// Returns whether the act removes a value.
-pub(crate) fn removed_value(act: &Act) -> bool
+fn removes_value(act: &Act) -> bool
     ensures { result ≡ is_some (removed_step (plain_act act.now)) }
 {
-    match act {
-        Act::Ld(_, _) | Act::Lr(_, _, _) | Act::Od(_, _) | Act::Or(_, _, _) => true,
+    matches!(act, Act::Ld(..) | Act::Lr(..) | Act::Od(..) | Act::Or(..))
+}
+
+// Returns whether the act removes the value of this step.
+fn removes_step(act: &Act, step: &Step) -> bool
+    ensures { result ≡ removes_step (plain_act act.now) (plain_step step.now) }
+{
+    match (act, step) {
+        (Act::Ld(i, _) | Act::Lr(i, _, _), Step::Index(j)) => *i == *j,
+        (Act::Od(k, _) | Act::Or(k, _, _), Step::Key(l)) => keys_equal(k.as_str(), l.as_str()),
         _ => false,
-    }
-}
-
-fn removes_index(number: u64, step: &Step) -> bool
-    ensures { result ≡ steps_equal (index number) (plain_step step.now) }
-{
-    match step {
-        Step::Index(other) => number == *other,
-        Step::Key(_) => false,
-    }
-}
-
-fn removes_key(name: &str, step: &Step) -> bool
-    ensures { result ≡ steps_equal (key name.now) (plain_step step.now) }
-{
-    match step {
-        Step::Index(_) => false,
-        Step::Key(other) => keys_equal(name, other.as_str()),
-    }
-}
-
-// Returns the rest of the other path inside the value that the act at this path removes.
-pub(crate) fn strip_removed_path<'p>(
-    path: &[Step],
-    act: &Act,
-    other: &'p [Step],
-) -> Option<&'p [Step]>
-    ensures { option_map (λ rest. plain_path rest.now) result
-        ≡ strip_removed_path (component_at (plain_path path.now) (plain_act act.now)) (plain_path other.now) }
-{
-    match strip_prefix(path, other)? {
-        [] => None,
-        [step, rest @ ..] => {
-            if removed_step(act, step) {
-                Some(rest)
-            } else {
-                None
-            }
-        }
     }
 }
 
@@ -106,8 +72,8 @@ fn updated_value(
     path: &[Step],
     over: &Act,
 ) -> Result<Arc<Json>, Fault>
-    ensures ok { IfOk result (λ v. value_of (arc_value v)
-        ≡ updated_value (component_at (plain_path path.now) (plain_act over.now)) (value_of (arc_value value))) }
+    ensures ok { IfOk result (λ v. arc_json_value v
+        ≡ updated_value (component_at (plain_path path.now) (plain_act over.now)) (arc_json_value value)) }
     ensures err { IfErr result (λ f. f ≡ OutOfMemory) }
 {
     let mut value = make_unique(alloc, value)?;

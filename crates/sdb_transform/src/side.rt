@@ -1,8 +1,7 @@
-//! Sides, faults, and the result of one act's transform.
+//! Sides and faults.
 ghost use Rattle.std.specs.Prelude.{◌≡◌};
 ghost use Rattle.sdb_transform.specs.ActModel.{opposite};
 
-use sdb_component::Act;
 use std::alloc::{AllocError, AllocFailed};
 use thiserror::Error;
 
@@ -59,12 +58,4 @@ impl<T: Drop> From<AllocFailed<T>> for Fault {
     fn from(_error: AllocFailed<T>) -> Fault {
         Fault::OutOfMemory
     }
-}
-
-// The acts that remain of one after a transform.
-#[derive(Drop)]
-pub(crate) enum RemainingActs {
-    Dropped,
-    One(Act),
-    Two(Act, Act),
 }

@@ -1,26 +1,28 @@
 -- Laws of sessions: alone with the machine, the answers of a session's calls are its dialogue.
-use Rattle.std.proofs.Common.{◌≡◌, ℕ, List, [], ◌∷◌, length, Bool, true, false, not, ◌&&◌, cond, nat_lt, ◌+◌, ◌++◌, map, nat_eq, Option, Some, None, unwrap_or, Result, Ok, Err, ◌⊎◌, inl, inr, refl, sym, ap, ◌∙◌, subst, append_assoc, arith}
+use Rattle.std.proofs.Common.{◌≡◌, ℕ, List, [], ◌∷◌, length, Bool, true, false, not, ◌&&◌, cond, nat_lt, ◌+◌, ◌-◌, ◌<◌, ◌≤◌, ◌++◌, take, drop, take-append-drop, map, nat_eq, Option, Some, None, unwrap_or, Result, Ok, Err, ◌⊎◌, inl, inr, refl, sym, ap, ◌∙◌, subst, append_assoc, arith}
 use Rattle.std.proofs.lemmas.Bool.Decides.{nat_tests}
+use Rattle.std.proofs.lemmas.List.{map-append}
 use Rattle.std.specs.Result.{is_ok}
 use Rattle.sdb_oplog.specs.declared.codes.Code.{Code}
 use Rattle.sdb_oplog.specs.declared.codes.Code.TheVariants.{E4, E10, E11}
 use Rattle.sdb_oplog.specs.Plain.{PlainEntry, PlainSubmission, PlainContent}
-use Rattle.sdb_oplog.specs.Keys.{PlainKey, keys_equal}
+use Rattle.sdb_oplog.specs.Keys.{PlainKey, Logs, keys_equal}
 use Rattle.sdb_oplog.specs.Decide.{PlainReply, refused, decide_allocates}
 use Rattle.sdb_subscribe.specs.Queue.{PlainQueues, open_queue, take_result_by, queues_after_take_by}
 use Rattle.sdb_oplog.specs.Snap.{document_of}
 use Rattle.sdb_desk.specs.laws.KeyLaws.{with_queues_same, keys_equal_refl}
 use Rattle.sdb_desk.specs.Machine.{Machine, QueuesByKey, IsUnchanged, PlainFetchResult, PlainSubscribeResult, DecidesOrOutOfMemory, ReadOrOutOfMemory, is_nonempty, operations_from, queue_start, subscribe_step, subscribe_from_start, subscribe_opened, with_queues}
 use Rattle.sdb_projection.specs.Table.{PlainProjection}
-use Rattle.sdb_submit.specs.Calls.{MachineStep, take_next, unsubscribe as unsubscribe_call, subscribe as subscribe_call, snapshot as snapshot_call, snapshot_at_time as at_time_call}
+use Rattle.sdb_submit.specs.Calls.{MachineStep, current_version, take_next, unsubscribe as unsubscribe_call, subscribe as subscribe_call, snapshot as snapshot_call, snapshot_at_time as at_time_call}
 use Rattle.sdb_submit.specs.SubmitLoop.{CallRelation, PlainBatch, total_size, entries_of, taken_or_empty, TakesBatches}
-use Rattle.sdb_submit.specs.laws.SubmitLaws.{submit_is_atomic, lists_all_is_operations}
+use Rattle.sdb_submit.specs.laws.SubmitLaws.{submit_is_atomic, lists_all_is_operations, reads_batches_append}
 use Rattle.sdb_wire.specs.Wire.{PlainEcho, parse_message, PlainRequest, hello, fetch, subscribe, unsubscribe, submit, snapshot, snapshot_at_time}
-use Rattle.sdb_wire.specs.Answers.{PlainAnswer, failed}
+use Rattle.sdb_wire.specs.Answers.{PlainAnswer, list_end, caught_up, failed}
 use Rattle.sdb_session.specs.ProjectionModel.{base_key, projection_of_key, is_permitted}
 use Rattle.sdb_session.specs.Sessions.{QueueId, PlainSubscription, PlainSession, queue_of, is_subscription_full}
+use Rattle.sdb_session.specs.Listing.{PlainListing, entries_left, ListingBegins, ListingContinues, MessageBegins, TextBegins}
 use Rattle.sdb_session.specs.Output.{answer_items}
-use Rattle.sdb_session.specs.Responses.{ReadResult, RequestResult, PlainSubscribeReply, response_of, submission_of, first_batch_len, limit_code, fetch_answers, list_answers, read_answers, submit_answers, snapshot_answers, moment_answers, subscribe_response, FetchCalls, SubmitCalls, RefuseCalls, CloseCalls, FirstTakeCalls, OpenAndTakeCalls, SubscribeCalls, RequestCalls, MessageOutcome, TextOutcome}
+use Rattle.sdb_session.specs.Responses.{ReadResult, RequestResult, PlainSubscribeReply, response_of, submission_of, first_batch_len, limit_code, entry_answers, fetch_answers, list_answers, read_answers, submit_answers, snapshot_answers, moment_answers, subscribe_response, FetchCalls, SubmitCalls, RefuseCalls, CloseCalls, FirstTakeCalls, OpenAndTakeCalls, SubscribeCalls, RequestCalls, MessageOutcome, TextOutcome}
 use Rattle.sdb_session.specs.laws.BatchLaws.{taken_none, after_none, takes_are_one}
 use Rattle.sdb_session.specs.PumpModel.{PlainTake, TakeCalls, PumpRelation, pump_answers}
 use Rattle.sdb_session.specs.Dialogue.{pass_zero, State, Transition, Allocation, ok, failed_before, failed_after_open, subscribe_step_at, machine_after_open, next_entries, machine_after_take, machine_after_close, decide_result, with_machine_queues, subscribe_result, limit_code_at, subscribe_or_refuse, machine_reply, transition_of_request, opens_queue, request_allocates, machine_after_failed_open, out_of_memory_transition, transition_with_allocation, transition_of_message, transition_of_line, pump_takes, machine_after_pump, pump_transition}
@@ -190,6 +192,13 @@ present_code log =
 code_if : (b : Bool) (v : ℕ) → limit_code_at (cond b (Err E4) (Ok v)) ≡ cond b E4 E11
 code_if true v = refl
 code_if false v = refl
+
+-- the answers so far, and those that the machine adds
+pub record AnswersSplit (all : List PlainAnswer) (says : List PlainAnswer → Type 0) : Type 0 where
+  pub front : List PlainAnswer
+  pub more : List PlainAnswer
+  pub said : says front
+  pub split : all ≡ front ++ more
 
 -- ---- one message
 
@@ -489,6 +498,105 @@ module _ {P : Type 0} (machine : P → Machine) where
       → (w : Allocation) × IsTransition (transition_of_line t (state_at p s) now w (Some text)) says new q
   answers_output text t now s p says new q h =
       message_output t (parse_message text).echo now s p says new q (parse_message text).request h
+
+  -- ---- listings
+
+  -- a part of a list comes first in it
+  answers_split : (o : Option PlainProjection) (k : PlainKey) (n : ℕ) (es : List PlainEntry) (last : PlainAnswer)
+      → entry_answers o k es ++ last ∷ [] ≡ entry_answers o k (take n es) ++ (entry_answers o k (drop n es) ++ last ∷ [])
+  answers_split o k n es last =
+      ap (λ l. entry_answers o k l ++ last ∷ []) (sym (take-append-drop n es))
+      ∙ ap (λ l. l ++ last ∷ []) (map-append _ (take n es) (drop n es))
+      ∙ append_assoc (entry_answers o k (take n es)) (entry_answers o k (drop n es)) (last ∷ [])
+
+  module _ (t : List PlainProjection) (e : PlainEcho) (now : ℕ) (s : PlainSession) (p : P) (rest : PlainListing)
+      (says : List PlainAnswer → Type 0) (q : P) where
+    abbrev answers_at : PlainRequest → List PlainAnswer
+    answers_at r = (transition_of_request t e (state_at p s) now r).answers
+
+    -- the listing of a log
+    listing_split : (k : PlainKey) (v end : ℕ) (m : P) → MachineActs (base_key t k) current_version p end m → v ≤ end
+        → ListingContinues MachineActs t (record { key = k; base = base_key t k; next = v; end = end; queue = None }) m rest says q
+        → AnswersSplit (answers_at (fetch k (Some v))) says
+    listing_split k v end m (is, (logs, queues)) within a =
+        let b = base_key t k in
+        let o = projection_of_key t k in
+        let log = (machine p).logs b in
+        let n = total_size a.batches in
+        let read = (reads_batches_append machine pass_zero b v a.batches m q a.reads).0 in
+        let front : entries_of a.batches ≡ take n (drop v log) = read ∙ ap (λ (f : Logs). take n (drop v (f b))) logs in
+        let reached : nat_lt (length log) v ≡ false = grind (arith, nat_tests, is, within) in
+        let all : operations_from log v ≡ Ok (drop v log) = ap (λ x. cond x (Err E4) (Ok (drop v log))) reached in
+        record {
+          front = entry_answers o k (take n (drop v log));
+          more = entry_answers o k (drop n (drop v log)) ++ list_end k ∷ [];
+          said = subst (λ es. says (entry_answers o k es)) front a.said;
+          split = ap (list_answers e o k) all ∙ answers_split o k n (drop v log) (list_end k);
+        }
+
+    -- the first entries of a new queue
+    subscription_split : (k : PlainKey) (v : ℕ) (opened : PlainSubscribeResult) (m : P) → is_subscription_full k s.subs ≡ false
+        → MachineActs (base_key t k) (subscribe_call (Some v)) p (Ok opened) m
+        → ListingContinues MachineActs t
+        (record { key = k; base = base_key t k; next = v; end = opened.version; queue = Some opened.id }) m rest says q
+        → AnswersSplit (answers_at (subscribe k (Some v))) says
+    subscription_split k v opened m full opens a =
+        let b = base_key t k in
+        let o = projection_of_key t k in
+        let x : QueueId = record { base = b; id = opened.id } in
+        let old = queue_of k s.subs in
+        let n = total_size a.batches in
+        let at = opens_ok (machine p) (machine m) b (Some v) opened opens in
+        let after = machine_after_open (machine p) b (Some v) in
+        let left = opened.version - (v + n) in
+        let some : 0 < left = subst (λ (y : PlainListing). 0 < entries_left y) a.advances a.some_left in
+        let sum : opened.version - v ≡ n + left = omega (arith, some) in
+        let first = next_entries after x n in
+        let later = next_entries (machine_after_take after x n) x left in
+        let read : entries_of a.batches ≡ first =
+        (batches_taken x a.batches m q a.reads).0 ∙ ap (λ (z : Machine). next_entries z x n) at.1 in
+        let whole : next_entries after x (opened.version - v) ≡ first ++ later =
+        ap (next_entries after x) sum ∙ (next_after after x n left).0 in
+        let due : answers_at (subscribe k (Some v)) ≡ entry_answers o k (next_entries after x (opened.version - v)) ++ caught_up k ∷ [] =
+        ap (λ f. (subscribe_response e t s k (Some v) (subscribe_or_refuse f (machine p) b (Some v) old).0).answers) full
+        ∙ ap (λ r. (subscribe_response e t s k (Some v) (subscribe_result (machine p) b (Some v) old r).0).answers) at.0 in
+        record {
+          front = entry_answers o k first;
+          more = entry_answers o k later ++ caught_up k ∷ [];
+          said = subst (λ es. says (entry_answers o k es)) read a.said;
+          split =
+              due
+              ∙ ap (λ es. entry_answers o k es ++ caught_up k ∷ []) whole
+              ∙ ap (λ l. l ++ caught_up k ∷ []) (map-append _ first later)
+              ∙ append_assoc (entry_answers o k first) (entry_answers o k later) (caught_up k ∷ []);
+        }
+
+    request_split : (r : PlainRequest) → ListingBegins MachineActs t s r p rest says q → AnswersSplit (answers_at r) says
+    request_split (fetch k (Some v)) a =
+        let (end, (at, within, is)) = a.opens in
+        listing_split k v end a.between at within (subst (λ (x : PlainListing). ListingContinues MachineActs t x a.between rest says q) is a.continues)
+    request_split (subscribe k (Some v)) a =
+        let (opened, (full, opens, is)) = a.opens in
+        subscription_split k v opened a.between full opens (subst (λ (x : PlainListing). ListingContinues MachineActs t x a.between rest says q) is a.continues)
+    request_split (fetch k None) a = absurd a.opens
+    request_split (subscribe k None) a = absurd a.opens
+    request_split (hello n) a = absurd a.opens
+    request_split (unsubscribe k) a = absurd a.opens
+    request_split (submit k v n src c) a = absurd a.opens
+    request_split (snapshot k v n) a = absurd a.opens
+    request_split (snapshot_at_time k v n) a = absurd a.opens
+
+    message_split : (r : Result PlainRequest Code) → MessageBegins MachineActs r t s p rest says q
+        → AnswersSplit (transition_of_message t (state_at p s) now ok e r).answers says
+    message_split (Ok r) a = request_split r a
+    message_split (Err code) a = absurd a
+
+  -- what a listing has written so far are the first answers of the dialogue, if no allocation fails
+  pub begun_output : (text : List ℕ) (t : List PlainProjection) (now : ℕ) (s : PlainSession) (p : P) (rest : PlainListing)
+      (says : List PlainAnswer → Type 0) (q : P) → TextBegins MachineActs text t s p rest says q
+      → AnswersSplit (transition_of_line t (state_at p s) now ok (Some text)).answers says
+  begun_output text t now s p rest says q h =
+      message_split t (parse_message text).echo now s p rest says q (parse_message text).request h
 
   -- ---- pumps
 

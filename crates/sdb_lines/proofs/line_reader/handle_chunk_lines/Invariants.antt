@@ -13,7 +13,7 @@ invariant-loop-at g l = record {
   taken : (lines : List (Option (List ℕ)))
       × (lines_ended_by l.initial.rest l.initial.line_buffer.partial_line.items ≡ lines ++ lines_ended_by l.rest l.line_buffer.partial_line.items)
       × (l.line_buffer.counts ≡ counts_after g.M.LineHandler.counts_as_step l.initial.line_buffer.counts lines)
-      × AppendsAnswersUpTo g.M.LineHandler.handles l.line_buffer.out.items l.initial.machine lines l.machine
+      × AppendsAnswersUpTo g.M.LineHandler.handles l.line_buffer.out.items (g.M.LineHandler.state l.initial.machine) lines (g.M.LineHandler.state l.machine)
       l.initial.line_buffer.out.items (g.W.Sink.bytes_written l.initial.writer) (g.W.Sink.bytes_written l.writer);
 }
 

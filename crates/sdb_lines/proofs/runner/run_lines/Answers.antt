@@ -1,4 +1,4 @@
-use Rattle.std.proofs.Common.{arith, inr, take, ap, ◌∙◌, length-take, refl}
+use Rattle.std.proofs.Common.{arith, take, ap, ◌∙◌, length-take, refl}
 use Rattle.sdb_lines.proofs.ChunkLemmas.{ended-few}
 use Rattle.sdb_lines.proofs.Runs.{nothing-written}
 use Rattle.sdb_lines.proofs.WriteLemmas.{but-no_error, if_any_some, on_any_err}
@@ -11,7 +11,7 @@ returns-in_err-space-clause-prefix_on_err g c =
 
 pub returns-in_err-write_opening-clause-prefix_on_err : goal.returns-in_err-write_opening-clause-prefix_on_err
 returns-in_err-write_opening-clause-prefix_on_err g c =
-    on_any_err _ (opening-prefix g.M.LineHandler.handles g.M.LineHandler.counts_as_step (g.R.Source.remaining_input c.args.reader.now) c.args.machine.now (g.M.LineHandler.opening c.args.machine.now) _ _ c.in_err-write_opening.ensures.prefix_on_err)
+    on_any_err _ (opening-prefix g.M.LineHandler.handles g.M.LineHandler.counts_as_step (g.R.Source.remaining_input c.args.reader.now) (g.M.LineHandler.state c.args.machine.now) (g.M.LineHandler.opening c.args.machine.now) _ _ c.in_err-write_opening.ensures.prefix_on_err)
 
 pub loop-turn-init : goal.loop-turn-init
 loop-turn-init g c = record {

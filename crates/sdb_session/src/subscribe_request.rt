@@ -1,0 +1,214 @@
+//! Requests that open or close a queue.
+ghost use Rattle.std.specs.Prelude.{◌≡◌, ℕ, ◌<◌, ◌∷◌, [], IfOk, OnOk, OnErr, Ok, Err, None};
+ghost use Rattle.indexmap.specs.IndexMap.{spare};
+ghost use Rattle.sdb_oplog.specs.Keys.{plain_key};
+ghost use Rattle.sdb_session.specs.Listing.{RequestPart};
+ghost use Rattle.sdb_session.specs.ListingView.{listing_result};
+ghost use Rattle.sdb_session.specs.Responses.{CloseCalls, RefuseCalls, OpenCalls, subscribe_answers, PlainSubscribeReply};
+ghost use Rattle.sdb_session.specs.Sessions.{is_subscription_full, insert_subscription, queue_of, with_subscription, without_subscription};
+ghost use Rattle.sdb_session.specs.View.{open_result, plain_opened, queue_id_of, plain_session, plain_projection_option, echo_of_message, OutputUnlessFailed, WroteAnswers};
+ghost use Rattle.sdb_wire.specs.Answers.{unsubscribed};
+ghost use Rattle.sdb_wire.specs.Wire.{subscribe};
+
+use crate::answer_sink::AnswerSink;
+use crate::answers::{write_answer, write_refusal, write_subscribed_document};
+use crate::listing::Listing;
+use crate::projection::base_key;
+use crate::session::{SUBSCRIPTION_LIMIT, Session};
+use crate::subscriptions::{Subscription, close_queue};
+use sdb_desk::SubscribeResult;
+use sdb_json::JsonTree;
+use sdb_oplog::{Code, Key};
+use sdb_projection::{Projection, Table};
+use sdb_submit::Desk;
+use sdb_wire::Answer;
+use std::alloc::AllocError;
+
+impl Session {
+    // Subscribes. The old queue of the key is closed after the new one is open.
+    pub(crate) fn subscribe<D: Desk, O: AnswerSink>(
+        &mut self,
+        desk: &D,
+        pass: &mut D::Pass,
+        table: &Table,
+        message: Option<&JsonTree<'_>>,
+        key: Key,
+        version: Option<u64>,
+        out: &mut O,
+    ) -> Result<Option<Listing>, AllocError>
+        requires accepted { D.accepts desk.now pass.old }
+        ensures accepted { D.accepts desk.now pass.new }
+        ensures number_unchanged { D.pass_number desk.now pass.new ≡ D.pass_number desk.now pass.old }
+        ensures outcome { (t : ℕ) → RequestPart (D.step desk.now) (echo_of_message message.entry) table.now
+            (D.pass_number desk.now pass.old) t (plain_session self.old) (subscribe (plain_key key) version) pass.old
+            (listing_result result) (WroteAnswers O.items (O.contents out.old) (O.contents out.new))
+            (plain_session self.new) pass.new }
+        ensures ended_unchanged { self.new.ended ≡ self.old.ended }
+    {
+        let projection = table.find(key.collection.as_str());
+        let base = base_key(projection, &key)?;
+        if self.is_subscription_full(&key) {
+            let code = limit_code(desk, pass, &base, version);
+            write_refusal(self.alloc, message, code, out)?;
+            return Ok(None);
+        }
+        let opened = match self.open_queue(desk, pass, &base, version) {
+            Ok(opened) => opened,
+            Err(code) => {
+                write_refusal(self.alloc, message, code, out)?;
+                return Ok(None);
+            }
+        };
+        match version {
+            None => {
+                self.subscribe_document(desk, pass, projection, key, base, opened, out)?;
+                Ok(None)
+            }
+            Some(next) => {
+                let listing = Listing {
+                    key,
+                    base,
+                    next,
+                    end: opened.version,
+                    queue: Some(opened.id),
+                };
+                self.begin_listing(desk, pass, table, message, listing, out)
+            }
+        }
+    }
+
+    // Opens a queue and reserves space for its subscription. If that fails, the queue is closed
+    // again.
+    fn open_queue<D: Desk>(
+        &mut self,
+        desk: &D,
+        pass: &mut D::Pass,
+        base: &Key,
+        version: Option<u64>,
+    ) -> Result<SubscribeResult, Code>
+        requires accepted { D.accepts desk.now pass.old }
+        ensures accepted { D.accepts desk.now pass.new }
+        ensures number_unchanged { D.pass_number desk.now pass.new ≡ D.pass_number desk.now pass.old }
+        ensures opens { OpenCalls (D.step desk.now) (plain_key base.now) version pass.old (open_result result)
+            pass.new }
+        ensures capacity { OnOk result (0 < spare self.new.subscriptions) }
+        ensures session { plain_session self.new ≡ plain_session self.old }
+        ensures ended_unchanged { self.new.ended ≡ self.old.ended }
+    {
+        let opened = desk.subscribe(pass, base, version)?;
+        match self.subscriptions.reserve(1) {
+            Ok(()) => Ok(opened),
+            Err(error) => {
+                desk.unsubscribe(pass, base, opened.id);
+                Err(Code::from(error))
+            }
+        }
+    }
+
+    // Writes the document, and replaces the key's queue. Space for the new one is reserved.
+    fn subscribe_document<D: Desk, O: AnswerSink>(
+        &mut self,
+        desk: &D,
+        pass: &mut D::Pass,
+        projection: Option<&Projection>,
+        key: Key,
+        base: Key,
+        opened: SubscribeResult,
+        out: &mut O,
+    ) -> Result<(), AllocError>
+        requires accepted { D.accepts desk.now pass.old }
+        requires capacity { 0 < spare self.old.subscriptions }
+        ensures accepted { D.accepts desk.now pass.new }
+        ensures number_unchanged { D.pass_number desk.now pass.new ≡ D.pass_number desk.now pass.old }
+        ensures close_calls { CloseCalls (D.step desk.now) (queue_of (plain_key key) (plain_session self.old).subs)
+            pass.old pass.new }
+        ensures session { plain_session self.new ≡ with_subscription (plain_session self.old) (plain_key key)
+            (record { base = plain_key base; id = opened.id }) }
+        ensures output { OnOk result (WroteAnswers O.items (O.contents out.old) (O.contents out.new)
+            (subscribe_answers (plain_projection_option projection.entry) (plain_key key) None
+            (record { opened = plain_opened opened; first = [] }))) }
+        ensures ended_unchanged { self.new.ended ≡ self.old.ended }
+    {
+        let id = opened.id;
+        let written = write_subscribed_document(self.alloc, projection, &key, opened, out);
+        self.replace_queue(desk, pass, key, Subscription { base, id });
+        written
+    }
+
+    // Closes the queue of the key, if there is one, and sets the new one. Space for it is reserved.
+    pub(crate) fn replace_queue<D: Desk>(
+        &mut self,
+        desk: &D,
+        pass: &mut D::Pass,
+        key: Key,
+        queue: Subscription,
+    )
+        requires accepted { D.accepts desk.now pass.old }
+        requires capacity { 0 < spare self.old.subscriptions }
+        ensures accepted { D.accepts desk.now pass.new }
+        ensures number_unchanged { D.pass_number desk.now pass.new ≡ D.pass_number desk.now pass.old }
+        ensures close_calls { CloseCalls (D.step desk.now) (queue_of (plain_key key) (plain_session self.old).subs)
+            pass.old pass.new }
+        ensures session { plain_session self.new
+            ≡ with_subscription (plain_session self.old) (plain_key key) (queue_id_of queue) }
+        ensures ended_unchanged { self.new.ended ≡ self.old.ended }
+    {
+        close_queue(desk, pass, self.subscriptions.get(&key));
+        self.insert_subscription(key, queue);
+    }
+
+    // Returns whether the limit excludes a new key.
+    fn is_subscription_full(&self, key: &Key) -> bool
+        ensures { result ≡ is_subscription_full (plain_key key.now) (plain_session self.now).subs }
+    {
+        !self.subscriptions.contains_key(key) && self.subscriptions.len() >= SUBSCRIPTION_LIMIT
+    }
+
+    // Sets the queue of the key. Space for it is reserved.
+    fn insert_subscription(&mut self, key: Key, queue: Subscription)
+        requires { 0 < spare self.old.subscriptions }
+        ensures subs { (plain_session self.new).subs
+            ≡ insert_subscription (plain_key key) (queue_id_of queue) (plain_session self.old).subs }
+        ensures source { (plain_session self.new).source ≡ (plain_session self.old).source }
+        ensures ended_unchanged { self.new.ended ≡ self.old.ended }
+    {
+        let _ = self.subscriptions.insert(key, queue);
+    }
+
+    // Closes the queue of the key, if there is one.
+    pub(crate) fn unsubscribe<D: Desk, O: AnswerSink>(
+        &mut self,
+        desk: &D,
+        pass: &mut D::Pass,
+        key: &Key,
+        out: &mut O,
+    ) -> Result<(), AllocError>
+        requires accepted { D.accepts desk.now pass.old }
+        ensures accepted { D.accepts desk.now pass.new }
+        ensures number_unchanged { D.pass_number desk.now pass.new ≡ D.pass_number desk.now pass.old }
+        ensures close_calls { CloseCalls (D.step desk.now) (queue_of (plain_key key.now) (plain_session self.old).subs)
+            pass.old pass.new }
+        ensures output { OutputUnlessFailed result (WroteAnswers O.items (O.contents out.old) (O.contents out.new))
+            (unsubscribed (plain_key key.now) ∷ []) }
+        ensures session { plain_session self.new ≡ without_subscription (plain_session self.old) (plain_key key.now) }
+        ensures ended_unchanged { self.new.ended ≡ self.old.ended }
+    {
+        let queue = self.subscriptions.shift_remove(key);
+        close_queue(desk, pass, queue.as_ref());
+        write_answer(self.alloc, &Answer::Unsubscribed { key }, out)
+    }
+}
+
+// Returns the code with which a full session refuses a key: its version is too new, or the limit is
+// reached.
+fn limit_code<D: Desk>(desk: &D, pass: &mut D::Pass, base: &Key, version: Option<u64>) -> Code
+    requires accepted { D.accepts desk.now pass.old }
+    ensures accepted { D.accepts desk.now pass.new }
+    ensures number_unchanged { D.pass_number desk.now pass.new ≡ D.pass_number desk.now pass.old }
+    ensures refuse_calls { RefuseCalls (D.step desk.now (plain_key base.now)) version pass.old (Err result) pass.new }
+{
+    match version {
+        Some(version) if desk.version(pass, base) < version => Code::E4,
+        _ => Code::E11,
+    }
+}

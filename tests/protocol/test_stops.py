@@ -1,0 +1,23 @@
+"""SIGTERM and SIGINT end the server gracefully, by the script of examples/deploy and by `serve`: 1001 to each client, status 0."""
+import re
+import signal
+import subprocess
+
+import pytest
+
+from support.frames import Connection
+from support.server import END, ROOT
+
+STOPPABLE = ROOT / "examples" / "deploy" / "stoppable"
+
+
+@pytest.mark.parametrize("number", [signal.SIGTERM, signal.SIGINT])
+def test_stoppable(program, number):
+    command = [STOPPABLE, program, "--listen", "127.0.0.1:0"]
+    with subprocess.Popen(command, stdout=subprocess.PIPE, text=True) as server:
+        match = re.fullmatch(r"listening (\S+):(\d+)\n", server.stdout.readline())
+        with Connection((match[1], int(match[2]))).enter() as connection:
+            server.send_signal(number)
+            assert connection.status() == 1001
+        server.communicate(timeout=END)
+        assert server.returncode == 0
