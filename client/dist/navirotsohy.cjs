@@ -1188,7 +1188,7 @@ var Machine = class {
   advance() {
     if (this.canAdvance)
       this.see(this.arrived.get(this.version));
-    if (this.state === "live" && !this.canAdvance)
+    if (this.state === "live")
       this.useFetched();
   }
   see(entry) {

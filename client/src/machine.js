@@ -395,7 +395,7 @@ export class Machine {
 
   advance() {
     if (this.canAdvance) this.see(this.arrived.get(this.version));
-    if (this.state === 'live' && !this.canAdvance) this.useFetched();
+    if (this.state === 'live') this.useFetched();
   }
 
   see(entry) {

@@ -126,6 +126,15 @@ test('a fetched document replaces one that differs, at its own version', OPTIONS
   assert.deepStrictEqual(namesOf(events), ['refused', 'healed']);
 });
 
+test('a fetched document is compared at its own version, before further operations that were received', OPTIONS, () => {
+  const { doc, events, socket } = loaded('wrong');
+  doc.submit(insert(0, '-'));
+  socket.answer(refused('op', 'ERR_OT_OP_NOT_APPLIED', { src: 'me', seq: 1 }), { a: 'f', ...ADDRESS, data: { data: 'xright', v: 4 } });
+  socket.answer(stored(4, insert(0, 'y')), stored(3, insert(0, 'x')));
+  holds(doc, 5, 'yxright');
+  assert.deepStrictEqual(events.map(([name, { version }]) => [name, version]), [['refused', undefined], ['healed', 4]]);
+});
+
 test('a fetched document is compared with no operations of the next connection', OPTIONS, () => {
   const all = loaded();
   all.doc.submit(insert(0, '-'));

@@ -423,3 +423,17 @@ test('an attempt after an open connection may be refused', OPTIONS, () => {
   sockets.last().close(1006);
   assert.deepStrictEqual(closings, [[1006, 'lost'], [1006, 'refused']]);
 });
+
+test('a listener disconnects while the documents begin: the others stay offline', OPTIONS, () => {
+  const all = loaded();
+  const other = all.client.document(ADDRESS.c, '2');
+  other.subscribe();
+  all.socket.close(1006);
+  all.clock.advance(SOON);
+  // the connection is complete at the time at which the edit waits for too long
+  all.clock.setTimeout(() => all.sockets.last().open(), 2000);
+  all.doc.submit(insert(3, 'd'));
+  all.doc.on('waiting', () => all.client.disconnect());
+  all.clock.advance(2000);
+  assert.deepStrictEqual([all.client.state, all.doc.state, other.state], ['disconnected', 'offline', 'offline']);
+});
