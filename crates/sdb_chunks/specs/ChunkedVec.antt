@@ -14,6 +14,10 @@ repr_models f (Flat b) = chunk_models f b
 repr_models f (Chunks bs) = flatten_models f (items_of bs)
 repr_models f (Groups gs) = flatten_group_models f (items_of gs)
 
+-- the representation of a list
+abbrev pub vec_repr : {X : Type 0} → ChunkedVec X → Repr X
+vec_repr l = l.repr
+
 abbrev pub vec_models : {X S : Type 0} → (X → S) → ChunkedVec X → List S
 vec_models f l = repr_models f l.repr
 
@@ -39,6 +43,9 @@ abbrev pub is_grouped : {X : Type 0} → Repr X → Bool
 is_grouped (Flat b) = false
 is_grouped (Chunks bs) = false
 is_grouped (Groups gs) = true
+
+abbrev pub is_grouped_vec : {X : Type 0} → ChunkedVec X → Bool
+is_grouped_vec l = is_grouped l.repr
 
 -- the list is one unique chunk
 abbrev pub is_unique_flat_repr : {X : Type 0} → Repr X → Bool

@@ -6,7 +6,7 @@ ghost use Rattle.sdb_chunks.specs.Rows.{chunked_vec_row};
 ghost use Rattle.sdb_chunks.specs.Iter.{remaining_items, remaining_chunks};
 ghost use Rattle.std.specs.Prelude.{◌≡◌, ◌≤◌, ◌<◌, ◌∷◌, [], true, false, length, max, map, slice_get, slice_set};
 ghost use Rattle.std.specs.Prelude.{option_map, nat_le, if◌then◌else◌, Some, IfOk, IfSome, is_some, OnOk, OnErr};
-ghost use Rattle.sdb_chunks.specs.ChunkedVec.{vec_models, is_unique_vec, is_unique_vec_at, is_shared_vec, is_unique_flat_vec, is_grouped, all_unique, all_shared, vec_chunks, vec_items, vec_chunk_items};
+ghost use Rattle.sdb_chunks.specs.ChunkedVec.{vec_models, is_unique_vec, is_unique_vec_at, is_shared_vec, is_unique_flat_vec, is_grouped_vec, all_unique, all_shared, vec_chunks, vec_items, vec_chunk_items, vec_repr};
 ghost use Rattle.sdb_chunks.specs.Chunk.{items_of};
 ghost use Rattle.sdb_chunks.specs.Chunks.{max_chunk_length};
 ghost use Rattle.sdb_chunks.specs.declared.chunked_vec.Repr.TheVariants.{Flat};
@@ -68,14 +68,14 @@ impl<T> ChunkedVec<T> {
 
     /// Creates a list from its representation.
     pub fn from_repr(repr: Repr<T>) -> ChunkedVec<T>
-        ensures { result.repr ≡ repr }
+        ensures { vec_repr result ≡ repr }
     {
         ChunkedVec { repr: repr }
     }
 
     /// Returns the representation.
     pub fn into_repr(self) -> Repr<T>
-        ensures { result ≡ self.repr }
+        ensures { result ≡ vec_repr self }
     {
         let ChunkedVec { repr: repr } = self;
         repr
@@ -94,14 +94,14 @@ impl<T> ChunkedVec<T> {
 
     /// Returns whether the list has groups.
     pub fn is_grouped(&self) -> bool
-        ensures { result ≡ is_grouped self.now.repr }
+        ensures { result ≡ is_grouped_vec self.now }
     {
         matches!(&self.repr, Repr::Groups(_))
     }
 
     /// Returns the representation.
     pub fn repr(&self) -> &Repr<T>
-        ensures { result.now ≡ self.now.repr }
+        ensures { result.now ≡ vec_repr self.now }
     {
         &self.repr
     }
@@ -263,7 +263,7 @@ impl<T: TryClone> ChunkedVec<T> {
             (λ n w. OnSome result (vec_models T.model n ≡ slice_set (vec_models T.model self.old) index (T.model w)))
             (λ n. vec_models T.model n ≡ vec_models T.model self.old)) }
         ensures item { IfSome result (λ x. slice_get (vec_models T.model self.old) index ≡ Some (T.model x.now)) }
-        ensures value { is_unique_vec_at self.old index ≡ true → is_grouped self.old.repr ≡ false
+        ensures value { is_unique_vec_at self.old index ≡ true → is_grouped_vec self.old ≡ false
             → option_map (λ x. T.model x.now) result ≡ slice_get (vec_models T.model self.old) index }
     {
         match &mut self.repr {
@@ -292,7 +292,7 @@ impl<T: TryClone> ChunkedVec<T> {
         ensures unchanged { vec_models T.model self.new ≡ vec_models T.model self.old }
         ensures unique { is_unique_vec self.old ≡ true → is_unique_vec self.new ≡ true }
         ensures chunks { vec_chunks self.new ≡ vec_chunks self.old }
-        ensures bound { OnOk result ((b : Chunk T) → self.new.repr ≡ Flat b → length (items_of b) < most) }
+        ensures bound { OnOk result ((b : Chunk T) → vec_repr self.new ≡ Flat b → length (items_of b) < most) }
     {
         if let Repr::Flat(chunk) = &mut self.repr {
             if chunk.len() >= most {

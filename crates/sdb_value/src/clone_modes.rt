@@ -2,7 +2,7 @@
 ghost use Rattle.std.specs.Prelude.{◌≡◌, Bool, map, true, false, IfOk, IfSome, IfNone};
 ghost use Rattle.std.specs.List.{flat_map};
 ghost use Rattle.sdb_chunks.specs.Chunk.{items_of, is_chunk_unique, is_chunk_shared};
-ghost use Rattle.sdb_chunks.specs.ChunkedVec.{all_shared, vec_chunks, is_grouped, is_shared_vec};
+ghost use Rattle.sdb_chunks.specs.ChunkedVec.{all_shared, vec_chunks, is_grouped_vec, is_shared_vec};
 ghost use Rattle.sdb_chunks.specs.declared.chunked_vec.ChunkedVec.{ChunkedVec};
 ghost use Rattle.sdb_sorted_map.specs.MapKey.{key_bytes};
 ghost use Rattle.sdb_sorted_map.specs.MapEntry.{key_value};
@@ -131,11 +131,11 @@ fn clone_list_pointer(items: &List, mode: CloneMode) -> Result<Option<List>, All
 // Returns the mode for the chunks of a list. A list in groups isn't unique, so its clone in chunks
 // is shared.
 fn chunk_clone_mode<T>(items: &ChunkedVec<T>, mode: CloneMode) -> CloneMode
-    ensures copied { (was now pointer : Bool) → (is_grouped items.now.repr ≡ true → was ≡ false)
+    ensures copied { (was now pointer : Bool) → (is_grouped_vec items.now ≡ true → was ≡ false)
         → (pointer ≡ true → now ≡ false) → HasUniquenessOfMode result was now pointer
         → HasUniquenessOfMode mode was now pointer }
     ensures equal { result ≡ Preserve → mode ≡ Preserve }
-    ensures in_blocks { result ≡ Preserve → is_grouped items.now.repr ≡ false }
+    ensures in_blocks { result ≡ Preserve → is_grouped_vec items.now ≡ false }
 {
     if items.is_grouped() && matches!(mode, CloneMode::Preserve) {
         return CloneMode::Frozen;
