@@ -3,23 +3,22 @@ use Rattle.std.proofs.Common.{◌≡◌, ◌≢◌, ℕ, zero, suc, ◌<◌, ◌
 use Rattle.std.specs.Prelude.{⊤}
 use Rattle.std.specs.Option.{is_some}
 use Rattle.sdb_value.specs.Value.{Value}
-use Rattle.sdb_value.specs.declared.value.Json.{Json}
 use Rattle.sdb_oplog.specs.Plain.{PlainEntry, PlainSubmission}
-use Rattle.sdb_oplog.specs.Decide.{decide}
+use Rattle.sdb_oplog.specs.Decide.{PlainReply, decide, IsMade}
 use Rattle.sdb_oplog.specs.Snap.{snap, document_of}
-use Rattle.sdb_oplog.specs.laws.LogLaws.{decide_extends}
+use Rattle.sdb_oplog.specs.laws.LogLaws.{decide_extends, made_of_decide}
 use Rattle.sdb_snapcache.specs.CacheModel.{Snapshot, nearest, promote_nearest, insert_front}
 use Rattle.sdb_snapcache.specs.SnapInvariant.{IsSnapOf, AreSnapsOf}
 use Rattle.sdb_snapcache.specs.laws.CacheLaws.{snap_of_nearest, nearest_not_above, snaps_of_promoted_nearest, snaps_of_inserted, snaps_of_extension}
 use Rattle.sdb_desk.specs.Reads.{CacheAfterOffer, CacheAfterRead}
-use Rattle.sdb_desk.specs.DocumentModel.{IsMadeDocument, IsDocument, IsReplayStart}
+use Rattle.sdb_desk.specs.DocumentModel.{IsDocument, IsReplayStart}
 
 -- with another cache of snapshots
-pub with_unchanged : (log : List PlainEntry) (present : Option Json) (kept other : List Snapshot) → AreSnapsOf log other → IsDocument log present kept → IsDocument log present other
-with_unchanged log present kept other snaps d = record { is_made = d.is_made; not_empty = d.not_empty; cache_is_snaps = snaps }
+pub with_unchanged : (log : List PlainEntry) (kept other : List Snapshot) → AreSnapsOf log other → IsDocument log kept → IsDocument log other
+with_unchanged log kept other snaps d = record { is_made = d.is_made; not_empty = d.not_empty; cache_is_snaps = snaps }
 
-pub with_used : (log : List PlainEntry) (present : Option Json) (kept other : List Snapshot) (v : ℕ) → other ≡ promote_nearest v kept → IsDocument log present kept → IsDocument log present other
-with_used log present kept other v is d = with_unchanged log present kept other (subst (AreSnapsOf log) (sym is) (snaps_of_promoted_nearest log v kept d.cache_is_snaps)) d
+pub with_used : (log : List PlainEntry) (kept other : List Snapshot) (v : ℕ) → other ≡ promote_nearest v kept → IsDocument log kept → IsDocument log other
+with_used log kept other v is d = with_unchanged log kept other (subst (AreSnapsOf log) (sym is) (snaps_of_promoted_nearest log v kept d.cache_is_snaps)) d
 
 -- the version at which a replay starts
 pub begins_up_to : (v w : ℕ) (o : Option Snapshot) (kept : List Snapshot) (d : Option Value) → nearest v kept ≡ o → IsReplayStart o w d → w ≤ v
@@ -48,19 +47,19 @@ none_of_more (x ∷ log) rest e = cc
 decided_filled : (log : List PlainEntry) (s : PlainSubmission) (now : ℕ) → log ≢ [] → (decide log s now).log ≢ []
 decided_filled log s now filled none = let g = decide_extends log s now in filled (none_of_more log g.0 (sym g.1 ∙ none))
 
--- a document after a decision whose allocation may have failed
-pub decided_document : {A E : Type 0} (log new : List PlainEntry) (s : PlainSubmission) (now : ℕ) (old present : Option Json) (kept : List Snapshot) (r : Result A E) → OnOk r (new ≡ (decide log s now).log) → OnErr r (new ≡ log)
-    → IsMadeDocument new present → IsDocument log old kept → IsDocument new present kept
-decided_document log new s now old present kept (Ok x) ok err made d = record {
-  is_made = made;
-  not_empty = subst (λ l. l ≢ []) (sym ok) (decided_filled log s now d.not_empty);
-  cache_is_snaps = subst (λ l. AreSnapsOf l kept) (sym ok) (decided_snaps log s now kept d.cache_is_snaps);
+-- a document after a decision
+pub decided_document : (log new : List PlainEntry) (s : PlainSubmission) (now : ℕ) (kept : List Snapshot) → new ≡ (decide log s now).log → IsDocument log kept → IsDocument new kept
+decided_document log new s now kept is d = record {
+  is_made = subst IsMade (sym is) (made_of_decide log s now d.is_made);
+  not_empty = subst (λ l. l ≢ []) (sym is) (decided_filled log s now d.not_empty);
+  cache_is_snaps = subst (λ l. AreSnapsOf l kept) (sym is) (decided_snaps log s now kept d.cache_is_snaps);
 }
-decided_document log new s now old present kept (Err e) ok err made d = record {
-  is_made = made;
-  not_empty = subst (λ l. l ≢ []) (sym err) d.not_empty;
-  cache_is_snaps = subst (λ l. AreSnapsOf l kept) (sym err) d.cache_is_snaps;
-}
+
+-- a document whose append may have failed
+pub document_after_append : {A E : Type 0} (log new : List PlainEntry) (s : PlainSubmission) (now : ℕ) (kept : List Snapshot) (reply : PlainReply) (r : Result A E)
+    → OnOk r (decide log s now ≡ record { reply = reply; log = new }) → OnErr r (new ≡ log) → IsDocument log kept → IsDocument new kept
+document_after_append log new s now kept reply (Ok x) ok err d = decided_document log new s now kept (sym (ap (λ e. e.log) ok)) d
+document_after_append log new s now kept reply (Err e) ok err d = subst (λ l. IsDocument l kept) (sym err) d
 
 nothing_at_zero : (log : List PlainEntry) (d : Value) → snap (take 0 log) ≡ Some (Some d) → 0 < 0
 nothing_at_zero [] d e = cc

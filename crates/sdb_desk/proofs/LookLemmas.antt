@@ -1,5 +1,6 @@
 -- Calls that change nothing.
-use Rattle.std.proofs.Common.{◌≡◌, ℕ, ◌<◌, Bool, true, false, not, nat_eq, arith, List, [], ◌∷◌, length, Result, Ok, Err, OnOk, OnErr, IfOk, IfErr, refl, sym, ap, ◌∙◌}
+use Rattle.std.proofs.Common.{◌≡◌, ℕ, ◌<◌, Bool, true, false, not, nat_eq, arith, List, [], ◌∷◌, length, Result, Ok, Err, OnOk, OnErr, IfOk, IfErr, refl, sym, ap, ◌∙◌, subst}
+use Rattle.std.specs.Result.{IsErrAnd}
 use Rattle.sdb_oplog.specs.Plain.{PlainEntry}
 use Rattle.sdb_oplog.specs.Keys.{PlainKey, keys_equal, with_log}
 use Rattle.sdb_desk.specs.laws.MapLaws.{cond_same}
@@ -35,6 +36,15 @@ if_ok (Err e) f p = tt
 pub if_err : {A E : Type 0} {P Q : E → Type 0} (r : Result A E) → ((e : E) → P e → Q e) → IfErr r P → IfErr r Q
 if_err (Ok x) f p = tt
 if_err (Err e) f p = f e p
+
+-- the error of a call that passed an error on
+pub if_err_from : {T E : Type 0} (P : E → Type 0) (r : Result T E) (e : E) → IsErrAnd r (λ y. y ≡ e) → P e → IfErr r P
+if_err_from P (Ok x) e h p = tt
+if_err_from P (Err y) e h p = subst P (sym h) p
+
+pub err_is_from : {T E : Type 0} (r : Result T E) (e f : E) → IsErrAnd r (λ y. y ≡ e) → r ≡ Err f → e ≡ f
+err_is_from (Ok x) e f h is = cc
+err_is_from (Err y) e f h is = let s : y ≡ f = cc in sym h ∙ s
 
 filled_or : (b : Bool) (n : ℕ) → nat_eq n 0 ≡ b → 0 < n → not b ≡ true
 filled_or true n is some = let z : n ≡ 0 = eqb-true n 0 is in absurd (omega (arith, z, some))

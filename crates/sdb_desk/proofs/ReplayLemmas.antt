@@ -1,5 +1,5 @@
 -- The replay of a replay base is the document.
-use Rattle.std.proofs.Common.{◌≡◌, ℕ, zero, suc, ◌+◌, ◌-◌, ◌≤◌, List, [], ◌∷◌, ◌++◌, take, drop, length, true, Option, Some, None, unwrap_or, refl, sym, ap, ◌∙◌, subst, arith}
+use Rattle.std.proofs.Common.{◌≡◌, ℕ, zero, suc, ◌+◌, ◌-◌, ◌≤◌, List, [], ◌∷◌, ◌++◌, take, drop, length, true, Option, Some, None, unwrap_or, refl, sym, ap, ◌∙◌, arith}
 use Rattle.std.proofs.Math.Seq.{take-add, take-length}
 use Rattle.std.proofs.lemmas.List.{drop-take}
 use Rattle.std.specs.Option.{option_and_then, is_some}
@@ -7,7 +7,7 @@ use Rattle.std.specs.Result.{result_ok}
 use Rattle.sdb_value.specs.Value.{Value}
 use Rattle.sdb_oplog.specs.Plain.{PlainEntry}
 use Rattle.sdb_oplog.specs.Snap.{apply_content, document_of, snap, snap_from}
-use Rattle.sdb_desk.specs.Reads.{PlainReplayBase, IsReplayBase}
+use Rattle.sdb_desk.specs.Reads.{IsReplayBase}
 
 snap_from_step : (o : Option (Option Value)) (f g h : Option Value → Option (Option Value)) → ((n : Option Value) → f n ≡ option_and_then h (g n))
     → option_and_then f o ≡ option_and_then h (option_and_then g o)

@@ -1,28 +1,29 @@
-//! One document: its log and its current value.
-ghost use Rattle.std.specs.Prelude.{◌≡◌, ◌≢◌, ℕ, ◌<◌, ◌≤◌, [], ◌∷◌, true, length, take, OnOk, OnErr, IfOk, IfErr, IsErrOf, IfSome, OnSome, IfNone, is_some, Some, Ok, Err, option_map, unwrap_or};
+//! One document: its log, its current value and its snapshots.
+ghost use Rattle.std.specs.Prelude.{◌≡◌, ◌≢◌, ◌<◌, ◌≤◌, [], true, length, take, OnOk, OnErr, IfOk, IfErr, IfSome, is_some, Some, option_map};
 ghost use Rattle.sdb_value.specs.Uniqueness.{is_frozen};
 ghost use Rattle.sdb_value.specs.View.{value_of};
-ghost use Rattle.sdb_oplog.specs.Decide.{decide, stored, missed_entries, IsMade, apply_to_copy_allocates};
-ghost use Rattle.sdb_oplog.specs.Refusal.{IsRefusalOrOutOfMemory};
-ghost use Rattle.sdb_oplog.specs.Snap.{apply_content, document_of, snap};
+ghost use Rattle.sdb_oplog.specs.Decide.{decide, stored, missed_entries, IsMade};
+ghost use Rattle.sdb_oplog.specs.DecidedLog.{WillStore};
+ghost use Rattle.sdb_oplog.specs.Snap.{document_of, snap};
 ghost use Rattle.sdb_oplog.specs.declared.codes.Code.TheVariants.{E10};
 ghost use Rattle.sdb_desk.specs.Machine.{operations_between, look_at, look_allocates};
 ghost use Rattle.sdb_desk.specs.View.{plain_replay_base, plain_look};
-ghost use Rattle.sdb_desk.specs.ReplyView.{plain_reply};
 ghost use Rattle.sdb_snapcache.specs.CacheModel.{nearest, promote_nearest};
 ghost use Rattle.sdb_snapcache.specs.View.{plain_snapshot};
-ghost use Rattle.sdb_desk.specs.DocumentModel.{IsMadeDocument, CanStore, WillStore, IsReplayStart, StoresNothing};
+ghost use Rattle.sdb_desk.specs.DocumentModel.{IsReplayStart};
 ghost use Rattle.sdb_snapcache.specs.SnapInvariant.{AreSnapsOf};
 ghost use Rattle.sdb_desk.specs.Reads.{CacheAfterRead, CacheAfterOffer, IsReplayBase, IsCachedReplayBase, CacheAfterUse};
 
 use crate::replay_base::ReplayBase;
 use crate::work::Look;
-use sdb_oplog::{Code, Content, Entry, Kind, Log, Moment, ReserveError, Submission, clone_entries};
+use sdb_oplog::{
+    Code, DecidedLog, Entry, Log, Moment, RebaseResult, Rejection, Submission, clone_document,
+    clone_entries,
+};
 use sdb_snapcache::Cache;
-use sdb_value::{Json, MAX};
+use sdb_value::Json;
 use std::alloc::{AllocError, Global};
 use std::marker::Model;
-use std::mem;
 
 /// The reply to a submission.
 #[derive(Drop)]
@@ -35,11 +36,25 @@ pub enum Reply {
     Refused(Code),
 }
 
-// A log that isn't empty, its current value, and a cache of snapshots at older versions.
+impl From<Rejection> for Reply {
+    ghost use Rattle.std.specs.Prelude.{◌≡◌};
+    ghost use Rattle.sdb_oplog.specs.DecidedLog.{plain_rejection};
+    ghost use Rattle.sdb_desk.specs.ReplyView.{plain_reply};
+
+    ghost from_gives = { λ rejection reply. plain_reply reply ≡ plain_rejection rejection };
+
+    fn from(rejection: Rejection) -> Reply {
+        match rejection {
+            Rejection::Repeat { v } => Reply::Repeat { v },
+            Rejection::Refused(code) => Reply::Refused(code),
+        }
+    }
+}
+
+// A log that isn't empty, and a cache of snapshots at older versions.
 #[derive(Drop)]
 pub(crate) struct Document {
-    log: Log,
-    current: Option<Json>,
+    decided: DecidedLog,
     cache: Cache,
 }
 
@@ -51,9 +66,9 @@ impl Model for Document {
 
     ghost coded = { document_code };
 
-    ghost view = { λ d. record { log = d.log; cache = d.cache } };
+    ghost view = { λ d. record { log = d.decided; cache = d.cache } };
 
-    ghost invariant = { λ d. IsDocument d.log d.current d.cache };
+    ghost invariant = { λ d. IsDocument d.decided d.cache };
 }
 
 impl Document {
@@ -62,31 +77,24 @@ impl Document {
         alloc: Global,
         submission: Submission,
         now: Moment,
-        content: Option<Content>,
-        next_document: Option<Json>,
+        rebased: RebaseResult,
     ) -> Result<Document, AllocError>
-        requires { WillStore [] submission content (option_map value_of next_document) }
+        requires { WillStore [] submission rebased.content (option_map value_of rebased.document) }
         ensures log { IfOk result (λ d. d.log ≡ (decide [] submission now).log) }
-        ensures cache { IfOk result (λ d. d.cache ≡ []) }
         ensures reply { OnOk result ((decide [] submission now).reply ≡ stored 0 (missed_entries [] submission)) }
+        ensures cache { IfOk result (λ d. d.cache ≡ []) }
     {
-        let mut log = Log::new(alloc);
-        let mut present = None;
-        append_entry(
-            alloc,
-            &mut log,
-            &mut present,
-            submission,
-            now,
-            content,
-            next_document,
-        )?;
+        let mut decided = DecidedLog::new(alloc);
+        decided.append(alloc, submission, now, rebased)?;
         let cache = Cache::new(alloc);
-        Ok(Document {
-            log,
-            current: present,
-            cache,
-        })
+        Ok(Document { decided, cache })
+    }
+
+    // Returns the log with its document.
+    pub(crate) fn decided(&self) -> &DecidedLog
+        ensures { result.now ≡ self.now.log }
+    {
+        &self.decided
     }
 
     pub(crate) fn log(&self) -> &Log
@@ -94,14 +102,7 @@ impl Document {
         ensures nonempty { self.now.log ≢ [] }
         ensures is_made { IsMade self.now.log }
     {
-        &self.log
-    }
-
-    // Returns the current value.
-    pub(crate) fn current(&self) -> Option<&Json>
-        ensures { option_map (λ v. value_of v.now) result ≡ document_of self.now.log }
-    {
-        self.current.as_ref()
+        self.decided.log()
     }
 
     // Returns a clone of the current value, after freezing it.
@@ -111,7 +112,7 @@ impl Document {
         ensures memory { OnErr result (is_some (document_of self.old.log) ≡ true) }
         ensures unchanged { self.new ≡ self.old }
     {
-        freeze_document(alloc, &mut self.current)
+        self.decided.freeze(alloc)
     }
 
     // Returns the number of cached snapshots.
@@ -129,22 +130,16 @@ impl Document {
         alloc: Global,
         submission: Submission,
         now: Moment,
-        content: Option<Content>,
-        next_document: Option<Json>,
+        rebased: RebaseResult,
     ) -> Result<(), AllocError>
-        requires { WillStore self.old.log submission content (option_map value_of next_document) }
+        requires { WillStore self.old.log submission rebased.content (option_map value_of rebased.document) }
         ensures log { OnOk result (self.new.log ≡ (decide self.old.log submission now).log) }
         ensures reply { OnOk result ((decide self.old.log submission now).reply ≡
             stored (length self.old.log) (missed_entries self.old.log submission)) }
         ensures unchanged_on_err { OnErr result (self.new.log ≡ self.old.log) }
         ensures cache_unchanged { self.new.cache ≡ self.old.cache }
     {
-        let Document {
-            log,
-            current: present,
-            ..
-        } = self;
-        append_entry(alloc, log, present, submission, now, content, next_document)
+        self.decided.append(alloc, submission, now, rebased)
     }
 
     // Returns the document at a version, replayed from the nearest cached snapshot. The result is
@@ -157,14 +152,14 @@ impl Document {
         ensures log { self.new.log ≡ self.old.log }
         ensures cache { CacheAfterRead self.old.log version self.old.cache self.new.cache }
     {
-        if version == self.log.len() {
+        if version == self.log().len() {
             return Ok(self.freeze(alloc)?);
         }
         let (from, base) = self.nearest(alloc, version)?;
         if from == version {
             return Ok(base);
         }
-        let snapshot = self.log.replay_from(base, from, version)?;
+        let snapshot = self.log().replay_from(base, from, version)?;
         self.offer(alloc, version, snapshot.as_ref());
         Ok(snapshot)
     }
@@ -184,7 +179,7 @@ impl Document {
         ensures log { self.new.log ≡ self.old.log }
         ensures cache { CacheAfterUse self.old.log version self.old.cache self.new.cache }
     {
-        if self.log.len() == version {
+        if self.log().len() == version {
             return Ok(ReplayBase {
                 version,
                 snapshot: self.freeze(alloc)?,
@@ -193,7 +188,7 @@ impl Document {
         }
         let (from, snapshot) = self.nearest(alloc, version)?;
         let between = (version - from) as usize;
-        let entries = clone_entries(alloc, &self.log.entries_from(from)[..between])?;
+        let entries = clone_entries(alloc, &self.log().entries_from(from)[..between])?;
         Ok(ReplayBase {
             version: from,
             snapshot,
@@ -265,177 +260,22 @@ fn replay_start(found: Option<(u64, Json)>) -> (u64, Option<Json>)
     }
 }
 
-// Clones a document, which may be absent. The clone is frozen.
-pub(crate) fn clone_document(
-    alloc: Global,
-    document: Option<&Json>,
-) -> Result<Option<Json>, AllocError>
-    ensures copy { IfOk result (λ d. option_map value_of d ≡ option_map (λ v. value_of v.now) document.entry) }
-    ensures frozen { IfOk result (λ d. IfSome d (λ v. is_frozen v ≡ true)) }
-    ensures memory { OnErr result (is_some document.entry ≡ true) }
-{
-    match document {
-        Some(value) => Ok(Some(value.frozen_clone(alloc)?)),
-        None => Ok(None),
-    }
-}
-
-// Freezes a document, which may be absent, and clones it. Only the parts that weren't frozen before
-// cost more than a pointer.
-fn freeze_document(alloc: Global, document: &mut Option<Json>) -> Result<Option<Json>, AllocError>
-    ensures copy { IfOk result (λ d. option_map value_of d ≡ option_map value_of document.old) }
-    ensures frozen { IfOk result (λ d. IfSome d (λ v. is_frozen v ≡ true)) }
-    ensures unchanged { option_map value_of document.new ≡ option_map value_of document.old }
-    ensures memory { OnErr result (is_some document.old ≡ true) }
-{
-    match document {
-        Some(value) => Ok(Some(freeze_value(alloc, value)?)),
-        None => Ok(None),
-    }
-}
-
-fn freeze_value(alloc: Global, value: &mut Json) -> Result<Json, AllocError>
-    ensures copy { IfOk result (λ v. value_of v ≡ value_of value.old) }
-    ensures frozen { IfOk result (λ v. is_frozen v ≡ true) }
-    ensures unchanged { value_of value.new ≡ value_of value.old }
-{
-    value.freeze(alloc)?;
-    value.frozen_clone(alloc)
-}
-
-// Freezes a document, which may be absent.
-fn freeze_all(alloc: Global, document: &mut Option<Json>) -> Result<(), AllocError>
-    ensures { option_map value_of document.new ≡ option_map value_of document.old }
-{
-    match document {
-        Some(value) => value.freeze(alloc),
-        None => Ok(()),
-    }
-}
-
-// Returns the reply that needs no rebase, if there is one: duplicate, full log, or version too new.
-pub(crate) fn early_reply(log: &Log, submission: &Submission) -> Option<Reply>
-    ensures reply { (t : ℕ) → IfSome result (λ r. plain_reply r ≡ (decide log.now submission.now t).reply) }
-    ensures log { (t : ℕ) → OnSome result ((decide log.now submission.now t).log ≡ log.now) }
-    ensures unstored { IfSome result (λ r. StoresNothing (plain_reply r)) }
-    ensures can_store { IfNone result (CanStore log.now submission.now) }
-{
-    if let Some(v) = log.stored_at(submission.src(), submission.seq()) {
-        return Some(Reply::Repeat { v });
-    }
-    let version = log.len();
-    if version == MAX {
-        return Some(Reply::Refused(Code::E11));
-    }
-    if version < submission.version().unwrap_or(version) {
-        return Some(Reply::Refused(Code::E4));
-    }
-    None
-}
-
-// Applies a content to a clone of a document, which may be absent, and freezes the result. A delete
-// doesn't allocate.
-pub(crate) fn apply_content(
-    alloc: Global,
-    content: &Content,
-    document: Option<&Json>,
-) -> Result<Option<Json>, Code>
-    ensures ok { IfOk result (λ d. apply_content content.now (option_map (λ v. value_of v.now) document.entry) ≡
-        Ok (option_map value_of d)) }
-    ensures err { IfErr result
-        (λ code. IsRefusalOrOutOfMemory (apply_content content.now (option_map
-        (λ v. value_of v.now) document.entry)) code) }
-    ensures memory { IsErrOf result E10 →
-        apply_to_copy_allocates content.now (option_map (λ v. value_of v.now) document.entry) ≡ true }
-{
-    check_presence(content, document)?;
-    if matches!(content.kind(), Kind::Delete) {
-        return Ok(None);
-    }
-    let mut next_document = clone_document(alloc, document)?;
-    content.apply_to(alloc, &mut next_document)?;
-    freeze_all(alloc, &mut next_document)?;
-    Ok(next_document)
-}
-
-// Refuses a create on a present document and an edit of an absent one.
-fn check_presence(content: &Content, document: Option<&Json>) -> Result<(), Code>
-    ensures ok { OnOk result
-        (apply_to_copy_allocates content.now (option_map (λ v. value_of v.now) document.entry) ≡ true) }
-    ensures err { IfErr result
-        (λ code. apply_content content.now (option_map (λ v. value_of v.now) document.entry) ≡ Err code) }
-{
-    match content.kind() {
-        Kind::Create(_) => match document {
-            Some(_) => Err(Code::E6),
-            None => Ok(()),
-        },
-        Kind::Delete => Ok(()),
-        Kind::Edit(_) => match document {
-            Some(_) => Ok(()),
-            None => Err(Code::E7),
-        },
-    }
-}
-
-// Appends a submission with its rebased content, and replaces the current value. Space is reserved
-// first, so the append can't fail.
-fn append_entry(
-    alloc: Global,
-    log: &mut Log,
-    present: &mut Option<Json>,
-    submission: Submission,
-    now: Moment,
-    content: Option<Content>,
-    next_document: Option<Json>,
-) -> Result<(), AllocError>
-    requires document { IsMadeDocument log.old present.old }
-    requires will_store { WillStore log.old submission content (option_map value_of next_document) }
-    ensures log { OnOk result (log.new ≡ (decide log.old submission now).log) }
-    ensures reply { OnOk result
-        ((decide log.old submission now).reply ≡ stored (length log.old) (missed_entries log.old submission)) }
-    ensures unchanged_on_err { OnErr result (log.new ≡ log.old) }
-    ensures document { IsMadeDocument log.new present.new }
-{
-    match mem::replace(log, Log::new(alloc)).reserve_append(submission) {
-        Ok(prepared) => {
-            *log = prepared.commit(now, content);
-            *present = next_document;
-            Ok(())
-        }
-        Err(ReserveError { log: kept, error }) => {
-            *log = kept;
-            Err(error)
-        }
-    }
-}
-
-// Returns a look at the log and the current value, for a submission.
+// Returns a look at the log and its document, for a submission.
 pub(crate) fn look_at(
     alloc: Global,
-    log: &Log,
-    present: Option<&Json>,
+    decided: &DecidedLog,
     submission: &Submission,
 ) -> Result<Look, AllocError>
-    requires { option_map (λ v. value_of v.now) present ≡ document_of log.now }
-    ensures look { IfOk result (λ l. plain_look l ≡ look_at log.now submission.now) }
-    ensures memory { OnErr result (look_allocates log.now submission.now ≡ true) }
+    ensures look { IfOk result (λ l. plain_look l ≡ look_at decided.now submission.now) }
+    ensures memory { OnErr result (look_allocates decided.now submission.now ≡ true) }
 {
+    let log = decided.log();
     Ok(Look {
         version: log.len(),
         repeat: log.stored_at(submission.src(), submission.seq()),
-        missed: clone_entries(alloc, missed_entries(log, submission))?,
-        snapshot: clone_document(alloc, present)?,
+        missed: clone_entries(alloc, log.missed_entries(submission))?,
+        snapshot: clone_document(alloc, decided.document())?,
     })
-}
-
-// Returns the entries stored since the submission's base version.
-pub(crate) fn missed_entries<'l>(log: &'l Log, submission: &Submission) -> &'l [Entry]
-    ensures { result.now ≡ missed_entries log.now submission.now }
-{
-    let version = log.len();
-    let since = submission.version().unwrap_or(version).min(version);
-    log.entries_from(since)
 }
 
 // Returns the entries from a version on, before another one; fewer if the log ends before.

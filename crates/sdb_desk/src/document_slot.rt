@@ -9,7 +9,8 @@ ghost use Rattle.sdb_oplog.specs.Snap.{document_of, snap};
 ghost use Rattle.sdb_oplog.specs.declared.codes.Code.TheVariants.{E10};
 ghost use Rattle.sdb_subscribe.specs.Queue.{open_queue, queue_at, take_result_by, queues_after_take_by, remove_queue_by, is_open_by};
 ghost use Rattle.sdb_subscribe.specs.Ring.{without_rings, AreRingsOfLog, ArePushed, ringed_queues_after_take_by, remove_ringed_queue_by};
-ghost use Rattle.sdb_desk.specs.DocumentModel.{empty_document, WillStore};
+ghost use Rattle.sdb_desk.specs.DocumentModel.{empty_document};
+ghost use Rattle.sdb_oplog.specs.DecidedLog.{WillStore};
 ghost use Rattle.sdb_desk.specs.Machine.{is_nonempty};
 ghost use Rattle.sdb_desk.specs.Reads.{CacheAfterRead, CacheAfterOffer, IsReplayBase, IsCachedReplayBase, CacheAfterUse};
 ghost use Rattle.sdb_desk.specs.Rings.{RingsAfterAppend, append_ringed_queue};
@@ -18,7 +19,7 @@ ghost use Rattle.sdb_desk.specs.View.{plain_replay_base};
 
 use crate::document::Document;
 use crate::replay_base::{ReplayBase, empty_replay_base};
-use sdb_oplog::{Code, Content, Entry, Log, Moment, Submission};
+use sdb_oplog::{Code, Entry, Log, Moment, RebaseResult, Submission};
 use sdb_subscribe::{Queues, SubId};
 use sdb_value::Json;
 use std::alloc::{AllocError, Global};
@@ -87,10 +88,9 @@ impl DocumentSlot {
         alloc: Global,
         submission: Submission,
         now: Moment,
-        content: Option<Content>,
-        next_document: Option<Json>,
+        rebased: RebaseResult,
     ) -> Result<(), AllocError>
-        requires { WillStore self.old.document.log submission content (option_map value_of next_document) }
+        requires { WillStore self.old.document.log submission rebased.content (option_map value_of rebased.document) }
         ensures log { OnOk result (self.new.document.log ≡ (decide self.old.document.log submission now).log) }
         ensures reply { OnOk result ((decide self.old.document.log submission now).reply ≡
             stored (length self.old.document.log) (missed_entries self.old.document.log submission)) }
@@ -101,14 +101,7 @@ impl DocumentSlot {
             self.old.queues.queues self.new.queues.queues }
     {
         let version = version_of(&self.document);
-        append_to_document(
-            &mut self.document,
-            alloc,
-            submission,
-            now,
-            content,
-            next_document,
-        )?;
+        append_to_document(&mut self.document, alloc, submission, now, rebased)?;
         push_to_rings(&mut self.queues, &self.document, version);
         Ok(())
     }
@@ -266,10 +259,10 @@ fn append_to_document(
     alloc: Global,
     submission: Submission,
     now: Moment,
-    content: Option<Content>,
-    next_document: Option<Json>,
+    rebased: RebaseResult,
 ) -> Result<(), AllocError>
-    requires { WillStore (document_or_empty document.old).log submission content (option_map value_of next_document) }
+    requires { WillStore (document_or_empty document.old).log submission rebased.content
+        (option_map value_of rebased.document) }
     ensures log { OnOk result
         ((document_or_empty document.new).log ≡ (decide (document_or_empty document.old).log submission now).log) }
     ensures reply { OnOk result ((decide (document_or_empty document.old).log submission now).reply ≡
@@ -280,9 +273,9 @@ fn append_to_document(
     ensures cache_unchanged { (document_or_empty document.new).cache ≡ (document_or_empty document.old).cache }
 {
     match document {
-        Some(document) => document.append(alloc, submission, now, content, next_document),
+        Some(document) => document.append(alloc, submission, now, rebased),
         None => {
-            let first = Document::with_first_entry(alloc, submission, now, content, next_document)?;
+            let first = Document::with_first_entry(alloc, submission, now, rebased)?;
             *document = Some(try_box(alloc, first)?);
             Ok(())
         }

@@ -11,4 +11,4 @@ mod work;
 pub use document::Reply;
 pub use replay_base::ReplayBase;
 pub use shard::{CommitDecision, FetchResult, Outcome, Shard, SubscribeResult};
-pub use work::{Attempt, Look, RebasedContent, Work};
+pub use work::{Attempt, Look, Work};

@@ -1,17 +1,18 @@
 //! All documents and queues by key.
-ghost use Rattle.std.specs.Prelude.{◌≡◌, ◌≢◌, ℕ, ◌≤◌, ◌<◌, [], true, length, map, is_some, take, IfOk, IfErr, IfSome, OnSome, IfNone, IsErrOf, OnOk, OnErr, Ok, Err, Some, None, option_map, unwrap_or, nat_eq};
-ghost use Rattle.sdb_oplog.specs.Decide.{decide, stored, missed_entries, IsMade, apply_to_copy_allocates, decide_allocates};
-ghost use Rattle.sdb_oplog.specs.Rebase.{rebase, rebase_allocates};
+ghost use Rattle.std.specs.Prelude.{◌≡◌, ◌≢◌, ℕ, ◌≤◌, ◌<◌, [], true, length, map, is_some, take, IfOk, IfErr, IfSome, IsErrOf, OnOk, OnErr, Ok, Err, Some, None, option_map, unwrap_or, nat_eq};
+ghost use Rattle.sdb_oplog.specs.Decide.{decide, stored, missed_entries, IsMade, decide_allocates};
+ghost use Rattle.sdb_oplog.specs.DecidedLog.{CanStore, WillStore, IsRejectedAs, IsRejectionOrOutOfMemory};
 ghost use Rattle.sdb_oplog.specs.Keys.{no_logs, with_log, plain_key};
 ghost use Rattle.sdb_oplog.specs.Refusal.{IsRefusalOrOutOfMemory};
-ghost use Rattle.sdb_oplog.specs.Snap.{apply_content, document_of};
+ghost use Rattle.sdb_oplog.specs.Snap.{document_of};
 ghost use Rattle.sdb_oplog.specs.declared.codes.Code.TheVariants.{E10};
+ghost use Rattle.sdb_oplog.specs.declared.decided_log.Rejection.TheVariants.{Refused};
 ghost use Rattle.sdb_snapcache.specs.SnapInvariant.{AreSnapsOf};
 ghost use Rattle.sdb_subscribe.specs.Queue.{open_queue, queue_at, is_open_by};
 ghost use Rattle.sdb_subscribe.specs.Ring.{ringed_queues_after_take_by, remove_ringed_queue_by};
 ghost use Rattle.sdb_value.specs.Uniqueness.{is_frozen};
 ghost use Rattle.sdb_value.specs.View.{value_of};
-ghost use Rattle.sdb_desk.specs.DocumentModel.{empty_document, CanStore, WillStore, IsRefusalReplyOrOutOfMemory, StoresNothing};
+ghost use Rattle.sdb_desk.specs.DocumentModel.{empty_document};
 ghost use Rattle.sdb_oplog.specs.Keys.{with_value_at_key};
 ghost use Rattle.sdb_desk.specs.ShardView.{slots_of, documents_of, logs_of, caches_of, with_cache, queues_of, ringed_queues_of, rings_of, with_ringed_queues};
 ghost use Rattle.sdb_desk.specs.Rings.{RingsFollowLogs, append_ringed_queue};
@@ -24,14 +25,14 @@ ghost use Rattle.sdb_desk.specs.Machine.{IsRefusedByWork, look_at, look_allocate
 ghost use Rattle.sdb_desk.specs.View.{plain_replay_base, plain_look, plain_outcome, outcome_of_decision, fetch_result_view, entries_view, subscribe_result_view, taken_view};
 ghost use Rattle.sdb_desk.specs.ReplyView.{plain_reply};
 
-use crate::document::{
-    Document, Reply, apply_content, clone_document, early_reply, entries_between, look_at,
-    missed_entries,
-};
+use crate::document::{Document, Reply, entries_between, look_at};
 use crate::document_slot::DocumentSlot;
 use crate::replay_base::{ReplayBase, empty_replay_base};
 use crate::work::{Look, Work};
-use sdb_oplog::{Code, Content, Entry, Key, Log, Moment, Submission, clone_entries, rebase};
+use sdb_oplog::{
+    Code, Content, DecidedLog, Entry, Key, Log, Moment, RebaseResult, Rejection, Submission,
+    clone_document, clone_entries,
+};
 use sdb_subscribe::SubId;
 use sdb_value::Json;
 use std::alloc::{AllocError, Global};
@@ -188,10 +189,8 @@ impl Shard {
             (look_allocates (logs_of self.now (plain_key key.now)) submission.now ≡ true) }
     {
         match self.find(key) {
-            Some(document) => {
-                look_at(self.alloc, document.log(), document.current(), submission)
-            }
-            None => look_at(self.alloc, &Log::new(self.alloc), None, submission),
+            Some(document) => look_at(self.alloc, document.decided(), submission),
+            None => look_at(self.alloc, &DecidedLog::new(self.alloc), submission),
         }
     }
 
@@ -246,12 +245,9 @@ impl Shard {
                 Err(error) => Outcome::Decided(Reply::Refused(Code::from(error))),
             });
         }
-        if let Some(reply) = self.early_reply(key, work.submission()) {
-            return CommitDecision::Reply(Outcome::Decided(reply));
-        }
         match self.append_work(key, work, now) {
             Ok(()) => CommitDecision::Store { v: work.version() },
-            Err(code) => CommitDecision::Reply(Outcome::Decided(Reply::Refused(code))),
+            Err(rejection) => CommitDecision::Reply(Outcome::Decided(Reply::from(rejection))),
         }
     }
 
@@ -267,13 +263,10 @@ impl Shard {
         ensures rings { RingsFollowLogs (logs_of self.old) (logs_of self.new) (ringed_queues_of self.old)
             (ringed_queues_of self.new) }
     {
-        if let Some(reply) = self.early_reply(key, submission) {
-            return reply;
-        }
         let v = self.version(key);
         match self.append_now(key, submission, now) {
             Ok(missed) => Reply::Stored { v, missed },
-            Err(code) => Reply::Refused(code),
+            Err(rejection) => Reply::from(rejection),
         }
     }
 
@@ -301,25 +294,8 @@ impl Shard {
         }
     }
 
-    // Returns the reply that needs no rebase, if there is one: duplicate, full log, or version too
-    // new.
-    fn early_reply(&self, key: &Key, submission: &Submission) -> Option<Reply>
-        ensures reply { (t : ℕ) → IfSome result
-            (λ r. plain_reply r ≡ (decide (logs_of self.now (plain_key key.now)) submission.now t).reply) }
-        ensures log { (t : ℕ) → OnSome result ((decide (logs_of self.now (plain_key key.now)) submission.now t).log ≡
-            logs_of self.now (plain_key key.now)) }
-        ensures unstored { IfSome result (λ r. StoresNothing (plain_reply r)) }
-        ensures can_store { IfNone result (CanStore (logs_of self.now (plain_key key.now)) submission.now) }
-    {
-        match self.find(key) {
-            Some(document) => early_reply(document.log(), submission),
-            None => early_reply(&Log::new(self.alloc), submission),
-        }
-    }
-
-    // Appends a work's submission with its rebased content, unless the work refuses it.
-    fn append_work(&mut self, key: &Key, work: &Work, now: Moment) -> Result<(), Code>
-        requires can_store { CanStore (logs_of self.old (plain_key key.now)) work.now.submission }
+    // Appends a work's submission with its rebased content, unless it is rejected.
+    fn append_work(&mut self, key: &Key, work: &Work, now: Moment) -> Result<(), Rejection>
         requires missed { work.now.look.missed
             ≡ missed_entries (logs_of self.old (plain_key key.now)) work.now.submission }
         requires snapshot { work.now.look.snapshot ≡ document_of (logs_of self.old (plain_key key.now)) }
@@ -328,38 +304,42 @@ impl Shard {
         ensures reply { OnOk result ((decide (logs_of self.old (plain_key key.now)) work.now.submission now).reply ≡
             stored (length (logs_of self.old (plain_key key.now))) work.now.look.missed) }
         ensures err { IfErr result
-            (IsRefusalReplyOrOutOfMemory (decide (logs_of self.old
-            (plain_key key.now)) work.now.submission now).reply) }
-        ensures memory { IsErrOf result E10 →
+            (IsRejectionOrOutOfMemory (logs_of self.old (plain_key key.now)) work.now.submission now) }
+        ensures memory { IsErrOf result (Refused E10) →
             decide_allocates (logs_of self.old (plain_key key.now)) work.now.submission ≡ true }
-        ensures found { IsErrOf result E10 → IsRefusedByWork (logs_of self.old (plain_key key.now)) work.now → ⊥ }
+        ensures found { IsErrOf result (Refused E10) →
+            IsRefusedByWork (logs_of self.old (plain_key key.now)) work.now → ⊥ }
         ensures unchanged_on_err { OnErr result (logs_of self.new ≡ logs_of self.old) }
         ensures caches_unchanged { caches_of self.new ≡ caches_of self.old }
         ensures queues_unchanged { queues_of self.new ≡ queues_of self.old }
         ensures rings { RingsFollowLogs (logs_of self.old) (logs_of self.new) (ringed_queues_of self.old)
             (ringed_queues_of self.new) }
     {
-        let content = work.content()?;
-        let next_document = clone_document(self.alloc, work.snapshot()?)?;
-        self.append(key, work.submission(), now, content, next_document)?;
+        self.check(key, work.submission())?;
+        let (content, snapshot) = (work.content()?, work.snapshot()?);
+        let rebased = RebaseResult {
+            content: clone_content(content)?,
+            document: clone_document(self.alloc, snapshot)?,
+        };
+        self.append(key, work.submission(), now, rebased)?;
         Ok(())
     }
 
-    // Rebases, applies and appends a submission, and returns clones of its missed entries.
+    // Decides and appends a submission, unless it is rejected, and returns clones of its missed
+    // entries.
     fn append_now(
         &mut self,
         key: &Key,
         submission: &Submission,
         now: Moment,
-    ) -> Result<Vec<Entry>, Code>
-        requires { CanStore (logs_of self.old (plain_key key.now)) submission.now }
+    ) -> Result<Vec<Entry>, Rejection>
         ensures logs { OnOk result (logs_of self.new ≡ with_log (logs_of self.old) (plain_key key.now)
             (decide (logs_of self.old (plain_key key.now)) submission.now now).log) }
         ensures reply { IfOk result (λ v. (decide (logs_of self.old (plain_key key.now)) submission.now now).reply ≡
             stored (length (logs_of self.old (plain_key key.now))) v.items) }
         ensures err { IfErr result
-            (IsRefusalReplyOrOutOfMemory (decide (logs_of self.old (plain_key key.now)) submission.now now).reply) }
-        ensures memory { IsErrOf result E10 →
+            (IsRejectionOrOutOfMemory (logs_of self.old (plain_key key.now)) submission.now now) }
+        ensures memory { IsErrOf result (Refused E10) →
             decide_allocates (logs_of self.old (plain_key key.now)) submission.now ≡ true }
         ensures unchanged_on_err { OnErr result (logs_of self.new ≡ logs_of self.old) }
         ensures caches_unchanged { caches_of self.new ≡ caches_of self.old }
@@ -367,29 +347,38 @@ impl Shard {
         ensures rings { RingsFollowLogs (logs_of self.old) (logs_of self.new) (ringed_queues_of self.old)
             (ringed_queues_of self.new) }
     {
-        let content = self.rebase(key, submission)?;
-        let next_document = self.apply(key, content.as_ref().unwrap_or(submission.content()))?;
+        self.check(key, submission)?;
+        let rebased = self.rebase(key, submission)?;
         let missed = self.clone_missed_entries(key, submission)?;
-        self.append(key, submission, now, content.as_ref(), next_document)?;
+        self.append(key, submission, now, rebased)?;
         Ok(missed)
     }
 
-    // Rebases the submission's content on the current log.
-    fn rebase(&self, key: &Key, submission: &Submission) -> Result<Option<Content>, Code>
-        ensures ok { IfOk result (λ m. rebase submission.now.content
-            (missed_entries (logs_of self.now (plain_key key.now)) submission.now) ≡
-            Ok (unwrap_or m submission.now.content)) }
-        ensures err { IfErr result (λ code. IsRefusalOrOutOfMemory (rebase submission.now.content
-            (missed_entries (logs_of self.now (plain_key key.now)) submission.now)) code) }
-        ensures memory { IsErrOf result E10 → rebase_allocates submission.now.content
-            (missed_entries (logs_of self.now (plain_key key.now)) submission.now) ≡ true }
+    // Checks what needs no rebase: duplicate, full log, version too new.
+    fn check(&self, key: &Key, submission: &Submission) -> Result<(), Rejection>
+        ensures ok { OnOk result (CanStore (logs_of self.now (plain_key key.now)) submission.now) }
+        ensures err { (t : ℕ) → IfErr result
+            (IsRejectedAs (logs_of self.now (plain_key key.now)) submission.now t) }
     {
         match self.find(key) {
-            Some(document) => {
-                let missed = missed_entries(document.log(), submission);
-                rebase(self.alloc, submission.content(), missed)
-            }
-            None => Ok(None),
+            Some(document) => document.decided().check(submission),
+            None => DecidedLog::new(self.alloc).check(submission),
+        }
+    }
+
+    // Rebases the submission on the current log, and applies it to the current document.
+    fn rebase(&self, key: &Key, submission: &Submission) -> Result<RebaseResult, Code>
+        requires { CanStore (logs_of self.now (plain_key key.now)) submission.now }
+        ensures ok { IfOk result (λ r. WillStore (logs_of self.now (plain_key key.now)) submission.now
+            r.content (option_map value_of r.document)) }
+        ensures err { (t : ℕ) → IfErr result (λ code. IsRejectionOrOutOfMemory
+            (logs_of self.now (plain_key key.now)) submission.now t (Refused code)) }
+        ensures memory { IsErrOf result E10 →
+            decide_allocates (logs_of self.now (plain_key key.now)) submission.now ≡ true }
+    {
+        match self.find(key) {
+            Some(document) => document.decided().rebase(self.alloc, submission),
+            None => DecidedLog::new(self.alloc).rebase(self.alloc, submission),
         }
     }
 
@@ -402,24 +391,8 @@ impl Shard {
         ensures { IfOk result (λ v. v.items ≡ missed_entries (logs_of self.now (plain_key key.now)) submission.now) }
     {
         match self.find(key) {
-            Some(document) => clone_entries(self.alloc, missed_entries(document.log(), submission)),
+            Some(document) => clone_entries(self.alloc, document.log().missed_entries(submission)),
             None => Ok(Vec::new(self.alloc)),
-        }
-    }
-
-    // Applies a content to the current document.
-    fn apply(&self, key: &Key, content: &Content) -> Result<Option<Json>, Code>
-        ensures ok { IfOk result (λ d. apply_content content.now (document_of (logs_of self.now (plain_key key.now))) ≡
-            Ok (option_map value_of d)) }
-        ensures err { IfErr result
-            (λ code. IsRefusalOrOutOfMemory (apply_content content.now (document_of (logs_of self.now
-            (plain_key key.now)))) code) }
-        ensures memory { IsErrOf result E10 →
-            apply_to_copy_allocates content.now (document_of (logs_of self.now (plain_key key.now))) ≡ true }
-    {
-        match self.find(key) {
-            Some(document) => apply_content(self.alloc, content, document.current()),
-            None => apply_content(self.alloc, content, None),
         }
     }
 
@@ -429,11 +402,10 @@ impl Shard {
         key: &Key,
         submission: &Submission,
         now: Moment,
-        content: Option<&Content>,
-        next_document: Option<Json>,
+        rebased: RebaseResult,
     ) -> Result<(), AllocError>
         requires { WillStore (logs_of self.old (plain_key key.now)) submission.now
-            (option_map (λ c. c.now) content) (option_map value_of next_document) }
+            rebased.content (option_map value_of rebased.document) }
         ensures logs { OnOk result (logs_of self.new ≡ with_log (logs_of self.old) (plain_key key.now)
             (decide (logs_of self.old (plain_key key.now)) submission.now now).log) }
         ensures reply { OnOk result ((decide (logs_of self.old (plain_key key.now)) submission.now now).reply ≡
@@ -446,10 +418,9 @@ impl Shard {
             (ringed_queues_of self.new) }
     {
         let submission = submission.try_clone()?;
-        let content = clone_content(content)?;
         match self.slots.get_mut(key) {
-            Some(slot) => slot.append(self.alloc, submission, now, content, next_document),
-            None => self.append_first(key, submission, now, content, next_document),
+            Some(slot) => slot.append(self.alloc, submission, now, rebased),
+            None => self.append_first(key, submission, now, rebased),
         }
     }
 
@@ -459,11 +430,10 @@ impl Shard {
         key: &Key,
         submission: Submission,
         now: Moment,
-        content: Option<Content>,
-        next_document: Option<Json>,
+        rebased: RebaseResult,
     ) -> Result<(), AllocError>
         requires nothing { empty_slot ≡ slots_of self.old (plain_key key.now) }
-        requires will_store { WillStore [] submission content (option_map value_of next_document) }
+        requires will_store { WillStore [] submission rebased.content (option_map value_of rebased.document) }
         ensures logs { OnOk result
             (logs_of self.new ≡ with_log (logs_of self.old) (plain_key key.now) (decide [] submission now).log) }
         ensures reply { OnOk result ((decide [] submission now).reply ≡ stored 0 (missed_entries [] submission)) }
@@ -474,7 +444,7 @@ impl Shard {
             (ringed_queues_of self.new) }
     {
         let mut slot = DocumentSlot::new(self.alloc);
-        slot.append(self.alloc, submission, now, content, next_document)?;
+        slot.append(self.alloc, submission, now, rebased)?;
         self.insert_slot(key, slot)?;
         Ok(())
     }

@@ -8,7 +8,7 @@ ghost use Rattle.sdb_value.specs.View.{value_of};
 ghost use Rattle.sdb_desk.specs.Machine.{WorkAfterCommit, work_result, work_allocates};
 ghost use Rattle.sdb_desk.specs.View.{rebased_content_of, plain_document_result, plain_attempt, plain_outcome, outcome_of_decision};
 
-use crate::document::{Reply, apply_content};
+use crate::document::Reply;
 use crate::shard::{CommitDecision, Outcome};
 use sdb_oplog::{Code, Content, Entry, Kind, Submission, rebase};
 use sdb_value::Json;
@@ -38,7 +38,7 @@ pub struct Attempt {
 
 /// The content of a submission, transformed against its missed entries.
 #[derive(Drop)]
-pub enum RebasedContent {
+pub(crate) enum RebasedContent {
     /// Equal to the submitted content.
     Unchanged,
     /// Another content.
@@ -127,7 +127,7 @@ impl Work {
     /// # Errors
     ///
     /// The attempt, unchanged, if an allocation fails. It allocates only to change a document.
-    pub fn from_content(
+    pub(crate) fn from_content(
         alloc: Global,
         attempt: Attempt,
         worked: RebasedContent,
@@ -212,7 +212,7 @@ impl Work {
     }
 
     /// Returns the attempt and its rebased content.
-    pub fn into_parts(self) -> (Attempt, RebasedContent)
+    pub(crate) fn into_parts(self) -> (Attempt, RebasedContent)
         ensures attempt { plain_attempt result.0 ≡ self }
         ensures worked { rebased_content_of self.submission.content result.1 ≡
             rebase self.submission.content self.look.missed }
@@ -282,5 +282,5 @@ fn apply_rebased(
         RebasedContent::Changed(content) => content,
         RebasedContent::Refused(code) => return Err(*code),
     };
-    apply_content(alloc, content, attempt.look.snapshot.as_ref())
+    content.apply_to_copy(alloc, attempt.look.snapshot.as_ref())
 }

@@ -1,12 +1,8 @@
 -- States that the check accepts the dumps of made logs within the limits, and no other lines.
-use Rattle.std.proofs.Common.{◌≡◌, ℕ, ◌<◌, ◌≤◌, List, [], ◌∷◌, ◌++◌, length, Bool, true, false, cond, Ok, Err, Ordering, Less, Equal, Greater, nat_cmp, is_eq, refl, sym, ap, ap₂, ◌∙◌, subst, arith, append-nil, length-append}
+use Rattle.std.proofs.Common.{◌≡◌, ℕ, ◌<◌, ◌≤◌, List, [], ◌∷◌, ◌++◌, length, Bool, true, false, cond, Ok, Err, refl, sym, ap, subst, arith, append-nil, length-append}
 use Rattle.std.specs.Prelude.{⊤, if◌then◌else◌, nat_eq, nat_lt, Result}
-use Rattle.std.specs.Ordering.{ordering_then}
-use Rattle.std.specs.Cmp.Lexicographic.{slice_cmp}
-use Rattle.std.proofs.lemmas.Cmp.{nat_list_cmp_total, tied_itself}
 use Rattle.std.proofs.lemmas.Bool.Decides.{nat_tests}
-use Rattle.std.proofs.lemmas.Map.Text.{is_eq-slice_cmp}
-use Rattle.std.proofs.lemmas.Slice.Eq.{bytes_eq-Decides}
+use Rattle.sdb_desk.specs.laws.KeyLaws.{eq_of_keys_equal, keys_equal_refl}
 use Rattle.sdb_oplog.specs.Keys.{PlainKey, keys_equal}
 use Rattle.sdb_oplog.specs.Plain.{PlainContent, PlainSubmission, PlainEntry}
 use Rattle.sdb_oplog.specs.Rebase.{rebase}
@@ -22,35 +18,21 @@ use Rattle.sdb_dump.proofs.CheckLemmas.{check_sound, check_complete}
 use Rattle.sdb_dump.proofs.DecideLemmas.{stored_from, stored_is}
 use Rattle.sdb_dump.proofs.ReadBackEntries.{line_reads_back}
 use Rattle.sdb_dump.specs.DumpLaws.{KeysAscendFrom, AllInLimits, IsDumpOfLogs}
-use Rattle.sdb_dump.proofs.CrossLimits.{OkInLimits, AllContentsInLimits, settled_fits}
-
--- ---- keys
-
-equal_texts : (xs ys : List ℕ) → is_eq (slice_cmp nat_cmp xs ys) ≡ true → xs ≡ ys
-equal_texts xs ys e = (bytes_eq-Decides xs ys).0 (sym (is_eq-slice_cmp xs ys) ∙ e)
-
-both_equal : (o p : Ordering) → is_eq (ordering_then o p) ≡ true → (is_eq o ≡ true) × (is_eq p ≡ true)
-both_equal Less p e = cc
-both_equal Equal p e = (refl, e)
-both_equal Greater p e = cc
-
-pub equal_keys : (a b : PlainKey) → keys_equal a b ≡ true → a ≡ b
-equal_keys a b e =
-    let h = both_equal (slice_cmp nat_cmp a.collection b.collection) (slice_cmp nat_cmp a.id b.id) e in
-    ap₂ (λ c i. record { collection = c; id = i }) (equal_texts a.collection b.collection h.0) (equal_texts a.id b.id h.1)
-
-pub same_as_itself : (k : PlainKey) → keys_equal k k ≡ true
-same_as_itself k = rw (tied_itself nat_list_cmp_total k.collection, tied_itself nat_list_cmp_total k.id) refl
+use Rattle.sdb_dump.proofs.HoldsLemmas.{IfOkHolds}
+use Rattle.sdb_dump.proofs.CrossLimits.{AllContentsInLimits, settled_fits}
 
 -- ---- the log of a key with one more line
 
-either_more : (b : Bool) (y : PlainLine) (es fs more : List PlainEntry) → fs ≡ es ++ more → cond b (y.entry ∷ fs) fs ≡ cond b (y.entry ∷ es) es ++ more
-either_more true y es fs more e = ap (λ l. y.entry ∷ l) e
-either_more false y es fs more e = e
+cond_append : (b : Bool) (x : PlainLine) (es fs more : List PlainEntry) → fs ≡ es ++ more → cond b (x.entry ∷ fs) fs ≡ cond b (x.entry ∷ es) es ++ more
+cond_append true x es fs more e = ap (λ l. x.entry ∷ l) e
+cond_append false x es fs more e = e
+
+pub log_append : (xs ys : List PlainLine) (k : PlainKey) → log_of_lines (xs ++ ys) k ≡ log_of_lines xs k ++ log_of_lines ys k
+log_append [] ys k = refl
+log_append (x ∷ xs) ys k = cond_append (keys_equal k x.key) x (log_of_lines xs k) (log_of_lines (xs ++ ys) k) (log_of_lines ys k) (log_append xs ys k)
 
 pub log_more : (before : List PlainLine) (x : PlainLine) (k : PlainKey) → log_of_lines (before ++ x ∷ []) k ≡ log_of_lines before k ++ cond (keys_equal k x.key) (x.entry ∷ []) []
-log_more [] x k = refl
-log_more (y ∷ before) x k = either_more (keys_equal k y.key) y (log_of_lines before k) (log_of_lines (before ++ x ∷ []) k) (cond (keys_equal k x.key) (x.entry ∷ []) []) (log_more before x k)
+log_more before x k = log_append before (x ∷ []) k
 
 -- ---- stored entries are within the limits
 
@@ -67,8 +49,8 @@ room_of_rebased log s m e h =
 abbrev pub LogInLimits : List PlainEntry → Type 0
 LogInLimits log = AllContentsInLimits log × (length log ≤ 9007199254740991)
 
-in_limits_at : (P : PlainContent → Type 0) (r : Result PlainContent Code) (m : PlainContent) → r ≡ Ok m → OkInLimits P r → P m
-in_limits_at P r m e h = subst (OkInLimits P) e h
+in_limits_at : (P : PlainContent → Type 0) (r : Result PlainContent Code) (m : PlainContent) → r ≡ Ok m → IfOkHolds P r → P m
+in_limits_at P r m e h = subst (IfOkHolds P) e h
 
 pub record AppendInLimits (v : DumpVersion) (log : List PlainEntry) (e : PlainEntry) : Type 0 where
   pub fits : EntryInLimits v e
@@ -102,42 +84,38 @@ first_made : (b : Bool) (log more : List PlainEntry) (x : PlainLine) → b ≡ t
 first_made true log more x e h = h.0
 first_made false log more x e h = cc
 
-next_all : (v : DumpVersion) (before xs : List PlainLine) → KeysAscendFrom before xs → ((k : PlainKey) → IsMadeFrom (log_of_lines before k) (log_of_lines xs k)) → AllInLimits v xs
-    → ((k : PlainKey) → LogInLimits (log_of_lines before k)) → AreNextLines v before xs
-next_all v before [] a m f h = tt
-next_all v before (x ∷ xs) a m f h =
+abbrev pub AllLinesInLimits : DumpVersion → List PlainLine → Type 0
+AllLinesInLimits v [] = ⊤
+AllLinesInLimits v (x ∷ xs) = KeyInLimits x.key × EntryInLimits v x.entry × AllLinesInLimits v xs
+
+-- all lines may follow each other, and all entries are within the limits
+record LinesFollow (v : DumpVersion) (before xs : List PlainLine) : Type 0 where
+  pub next : AreNextLines v before xs
+  pub fit : AllLinesInLimits v xs
+
+lines_follow : (v : DumpVersion) (before xs : List PlainLine) → KeysAscendFrom before xs → ((k : PlainKey) → IsMadeFrom (log_of_lines before k) (log_of_lines xs k)) → AllInLimits v xs
+    → ((k : PlainKey) → LogInLimits (log_of_lines before k)) → LinesFollow v before xs
+lines_follow v before [] a m f h = record { next = tt; fit = tt }
+lines_follow v before (x ∷ xs) a m f h =
     let log = log_of_lines before x.key in
-    let d = first_made (keys_equal x.key x.key) log (log_of_lines xs x.key) x (same_as_itself x.key) (m x.key) in
+    let d = first_made (keys_equal x.key x.key) log (log_of_lines xs x.key) x (keys_equal_refl x.key) (m x.key) in
     let g = append_in_limits v log x.entry (h x.key) f.1 f.2 d in
     let n : IsNextLine v before x = record { ascends = a.0; decided = d; read = line_reads_back v x f.0 g.fits } in
     let m' : (k : PlainKey) → IsMadeFrom (log_of_lines (before ++ x ∷ []) k) (log_of_lines xs k) =
     λ k. subst (λ l. IsMadeFrom l (log_of_lines xs k)) (sym (log_more before x k)) (made_more (keys_equal k x.key) (log_of_lines before k) (log_of_lines xs k) x (m k)) in
     let h' : (k : PlainKey) → LogInLimits (log_of_lines (before ++ x ∷ []) k) =
-    λ k. subst LogInLimits (sym (log_more before x k)) (log_in_limits_append v (keys_equal k x.key) (log_of_lines before k) x (h k) (λ e. subst (λ q. AppendInLimits v (log_of_lines before q) x.entry) (sym (equal_keys k x.key e)) g)) in
-    (n, next_all v (before ++ x ∷ []) xs a.1 m' f.3 h')
+    λ k. subst LogInLimits (sym (log_more before x k)) (log_in_limits_append v (keys_equal k x.key) (log_of_lines before k) x (h k) (λ e. subst (λ q. AppendInLimits v (log_of_lines before q) x.entry) (sym (eq_of_keys_equal k x.key e)) g)) in
+    let rest = lines_follow v (before ++ x ∷ []) xs a.1 m' f.3 h' in
+    record { next = (n, rest.next); fit = (f.0, g.fits, rest.fit) }
 
-abbrev pub AllLinesInLimits : DumpVersion → List PlainLine → Type 0
-AllLinesInLimits v [] = ⊤
-AllLinesInLimits v (x ∷ xs) = KeyInLimits x.key × EntryInLimits v x.entry × AllLinesInLimits v xs
-
--- all entries are within the limits
-fit_from : (v : DumpVersion) (before xs : List PlainLine) → ((k : PlainKey) → IsMadeFrom (log_of_lines before k) (log_of_lines xs k)) → AllInLimits v xs
-    → ((k : PlainKey) → LogInLimits (log_of_lines before k)) → AllLinesInLimits v xs
-fit_from v before [] m f h = tt
-fit_from v before (x ∷ xs) m f h =
-    let d = first_made (keys_equal x.key x.key) (log_of_lines before x.key) (log_of_lines xs x.key) x (same_as_itself x.key) (m x.key) in
-    let g = append_in_limits v (log_of_lines before x.key) x.entry (h x.key) f.1 f.2 d in
-    let m' : (k : PlainKey) → IsMadeFrom (log_of_lines (before ++ x ∷ []) k) (log_of_lines xs k) =
-    λ k. subst (λ l. IsMadeFrom l (log_of_lines xs k)) (sym (log_more before x k)) (made_more (keys_equal k x.key) (log_of_lines before k) (log_of_lines xs k) x (m k)) in
-    let h' : (k : PlainKey) → LogInLimits (log_of_lines (before ++ x ∷ []) k) =
-    λ k. subst LogInLimits (sym (log_more before x k)) (log_in_limits_append v (keys_equal k x.key) (log_of_lines before k) x (h k) (λ e. subst (λ q. AppendInLimits v (log_of_lines before q) x.entry) (sym (equal_keys k x.key e)) g)) in
-    (f.0, g.fits, fit_from v (before ++ x ∷ []) xs m' f.3 h')
+dump_follows : (v : DumpVersion) (xs : List PlainLine) → IsDumpOfLogs xs → AllInLimits v xs → LinesFollow v [] xs
+dump_follows v xs d f = lines_follow v [] xs d.ascends d.made f (λ k. (tt, omega arith))
 
 pub all_fit : (v : DumpVersion) (xs : List PlainLine) → IsDumpOfLogs xs → AllInLimits v xs → AllLinesInLimits v xs
-all_fit v xs d f = fit_from v [] xs d.made f (λ k. (tt, omega arith))
+all_fit v xs d f = (dump_follows v xs d f).fit
 
 pub dumps_accepted : (v : DumpVersion) (xs : List PlainLine) → IsDumpOfLogs xs → AllInLimits v xs → check (dump_lines v xs) [] ≡ Ok xs
-dumps_accepted v xs d f = check_complete v xs (next_all v [] xs d.ascends d.made f (λ k. (tt, omega arith)))
+dumps_accepted v xs d f = check_complete v xs (dump_follows v xs d f).next
 
 -- ---- no other lines are accepted
 
@@ -151,7 +129,7 @@ all_made v before [] h k = tt
 all_made v before (x ∷ xs) h k =
     let rest = subst (λ l. IsMadeFrom l (log_of_lines xs k)) (log_more before x k) (all_made v (before ++ x ∷ []) xs h.1 k) in
     made_first (keys_equal k x.key) (log_of_lines before k) (log_of_lines xs k) x
-    (λ e. subst (λ q. (decide (log_of_lines before q) x.entry.arrived x.entry.moment).log ≡ log_of_lines before q ++ x.entry ∷ []) (sym (equal_keys k x.key e)) h.0.decided) rest
+    (λ e. subst (λ q. (decide (log_of_lines before q) x.entry.arrived x.entry.moment).log ≡ log_of_lines before q ++ x.entry ∷ []) (sym (eq_of_keys_equal k x.key e)) h.0.decided) rest
 
 all_ascend : (v : DumpVersion) (before xs : List PlainLine) → AreNextLines v before xs → KeysAscendFrom before xs
 all_ascend v before [] h = tt

@@ -13,8 +13,9 @@ use Rattle.sdb_transform.specs.declared.side.Side.{Side}
 use Rattle.sdb_transform.specs.declared.side.Side.TheVariants.{Left, Right}
 use Rattle.sdb_transform.specs.Transform.{ActTransform, at_shifted_position, left_wins_or, one_act, no_acts, transform_act, split_delete, delete_without_overlap, delete_unless_empty, component_at, map_removed, updated_value, StepTransform, with_moved_step, transform_below, update_removed, strip_removed_path, removed_step, strip_prefix, transform_step, transform, put_after_put}
 use Rattle.sdb_dump.specs.ValueLimits.{IsSafeInteger, ValueInLimits, StepInLimits, StepsInLimits, ActInLimits, ComponentInLimits, ComponentsInLimits}
-use Rattle.sdb_dump.proofs.OffsetLemmas.{cut_is, units_split, behind_is}
-use Rattle.sdb_dump.proofs.PathLimits.{IfSomeHolds, opt_then, opt_map, opt_at}
+use Rattle.sdb_transform.proofs.OffsetLemmas.{cut_prefix, units_split}
+use Rattle.sdb_transform.proofs.PrefixLemmas.{behind_is}
+use Rattle.sdb_dump.proofs.HoldsLemmas.{IfSomeHolds, opt_then, opt_map, opt_or, opt_at, opt_any, cond_holds}
 use Rattle.sdb_dump.proofs.EffectLimits.{cut_boundary, does_fits}
 
 -- each act is within the limits, and has a last step only if n allows it
@@ -33,10 +34,6 @@ unchanged_in_limits a h = (h, omega arith, tt)
 
 no_acts_in_limits : (n : ℕ) → ActsInLimits n no_acts
 no_acts_in_limits n = tt
-
-if_both : (n : ℕ) (t : Bool) (a b : ActTransform) → ActsInLimits n a → ActsInLimits n b → ActsInLimits n (if t then a else b)
-if_both n true a b h k = h
-if_both n false a b h k = k
 
 if_knowing : (n : ℕ) (t : Bool) (a b : ActTransform) → (t ≡ true → ActsInLimits n a) → (t ≡ false → ActsInLimits n b) → ActsInLimits n (if t then a else b)
 if_knowing n true a b h k = h refl
@@ -60,7 +57,7 @@ split_in_limits : (p q before : ℕ) (d : List ℕ) (o : Option ℕ) → cut_at 
 split_in_limits p q before d None e u h k some less = tt
 split_in_limits p q before d (Some i) e u h k some less =
     let b = cut_boundary d before i u e in
-    let front = (cut_is d before i e).front in (
+    let front = cut_prefix d before i e in (
       (h, (IsUtf8-take d i u b, some_units (take i d) (omega (arith, front, some)))),
       omega arith,
       ((k, (IsUtf8-drop d i u b, some_units (drop i d) (omega (arith, front, units_split i d, less)))), omega arith, tt),
@@ -92,16 +89,16 @@ sd_over_sd_fits : (p r : ℕ) (d t : List ℕ) → ActInLimits 100 (sd p d) → 
 sd_over_sd_fits p r d t h =
     let after = min (units d) (r + units t - p) in
     let rest = delete_without_overlap (min p r) d (r - p) after in
-    if_both 1 (nat_le (r + units t) p) (one_act (sd (p - units t) d)) (if nat_le (p + units d) r then one_act (sd p d) else rest)
+    cond_holds (ActsInLimits 1) (nat_le (r + units t) p) (one_act (sd (p - units t) d)) (if nat_le (p + units d) r then one_act (sd p d) else rest)
     (one_fits 1 (sd (p - units t) d) (omega (arith, h.0), h.1) (omega arith))
-    (if_both 1 (nat_le (p + units d) r) (one_act (sd p d)) rest (one_fits 1 (sd p d) h (omega arith))
+    (cond_holds (ActsInLimits 1) (nat_le (p + units d) r) (one_act (sd p d)) rest (one_fits 1 (sd p d) h (omega arith))
     (without_fits (min p r) (r - p) after d (cut_at d (r - p)) (cut_at d after) refl refl h.1.0 (omega (arith, h.0))))
 
 -- ---- the table of transforms
 
 put_fits : (side : Side) (l k : List ℕ) (z y : Value) (c : PlainAct) → ActInLimits 100 c → length (last_step c) ≤ 1 → IsUtf8 l → ValueInLimits 50 z → ValueInLimits 50 y → ActsInLimits 1 (put_after_put side l z c k y)
 put_fits side l k z y c h s u g f =
-    if_both 1 (texts_equal k l) (left_wins_or side (one_act (or l y z)) no_acts) (one_act c)
+    cond_holds (ActsInLimits 1) (texts_equal k l) (left_wins_or side (one_act (or l y z)) no_acts) (one_act c)
     (side_fits 1 side (one_act (or l y z)) no_acts (one_fits 1 (or l y z) (u, (f.0, omega (arith, f.1)), g) (omega arith)) tt) (one_fits 1 c h s)
 
 over_fits : (side : Side) (a o : PlainAct) → ActInLimits 100 a → ActInLimits 100 o → ActsInLimits (length (last_step a)) (transform_act side a o)
@@ -110,12 +107,12 @@ over_fits side (si p s) (si r t) h k =
     let here = one_act (si p s) in
     let on = at_shifted_position p (units t) (λ q. one_act (si q s)) in
     let moves = raised_fits 1 p (units t) (λ q. one_act (si q s)) (λ q c. one_fits 1 (si q s) (c, h.1) (omega arith)) in
-    if_both 1 (nat_lt r p) on (if nat_eq r p then left_wins_or side here on else here) moves
-    (if_both 1 (nat_eq r p) (left_wins_or side here on) here (side_fits 1 side here on (unchanged_in_limits (si p s) h) moves) (unchanged_in_limits (si p s) h))
+    cond_holds (ActsInLimits 1) (nat_lt r p) on (if nat_eq r p then left_wins_or side here on else here) moves
+    (cond_holds (ActsInLimits 1) (nat_eq r p) (left_wins_or side here on) here (side_fits 1 side here on (unchanged_in_limits (si p s) h) moves) (unchanged_in_limits (si p s) h))
 over_fits side (si p s) (sd r t) h k =
     let here = one_act (si p s) in
-    if_both 1 (nat_le p r) here (if nat_le p (r + units t) then one_act (si r s) else one_act (si (p - units t) s)) (unchanged_in_limits (si p s) h)
-    (if_both 1 (nat_le p (r + units t)) (one_act (si r s)) (one_act (si (p - units t) s))
+    cond_holds (ActsInLimits 1) (nat_le p r) here (if nat_le p (r + units t) then one_act (si r s) else one_act (si (p - units t) s)) (unchanged_in_limits (si p s) h)
+    (cond_holds (ActsInLimits 1) (nat_le p (r + units t)) (one_act (si r s)) (one_act (si (p - units t) s))
     (one_fits 1 (si r s) (k.0, h.1) (omega arith)) (one_fits 1 (si (p - units t) s) (omega (arith, h.0), h.1) (omega arith)))
 over_fits side (si p s) o h k = unchanged_in_limits (si p s) h
 over_fits side (sd p d) (si r t) h k = sd_over_si_fits p r d t h
@@ -125,38 +122,38 @@ over_fits side (li j v) (li i u) h k =
     let here = one_act (li j v) in
     let on = at_shifted_position j 1 (λ q. one_act (li q v)) in
     let moves = raised_fits 1 j 1 (λ q. one_act (li q v)) (λ q c. one_fits 1 (li q v) (c, h.1) (omega arith)) in
-    if_both 1 (nat_lt i j) on (if nat_eq i j then left_wins_or side here on else here) moves
-    (if_both 1 (nat_eq i j) (left_wins_or side here on) here (side_fits 1 side here on (unchanged_in_limits (li j v) h) moves) (unchanged_in_limits (li j v) h))
+    cond_holds (ActsInLimits 1) (nat_lt i j) on (if nat_eq i j then left_wins_or side here on else here) moves
+    (cond_holds (ActsInLimits 1) (nat_eq i j) (left_wins_or side here on) here (side_fits 1 side here on (unchanged_in_limits (li j v) h) moves) (unchanged_in_limits (li j v) h))
 over_fits side (li j v) (ld i u) h k =
-    if_both 1 (nat_lt i j) (one_act (li (j - 1) v)) (one_act (li j v)) (one_fits 1 (li (j - 1) v) (omega (arith, h.0), h.1) (omega arith)) (unchanged_in_limits (li j v) h)
+    cond_holds (ActsInLimits 1) (nat_lt i j) (one_act (li (j - 1) v)) (one_act (li j v)) (one_fits 1 (li (j - 1) v) (omega (arith, h.0), h.1) (omega arith)) (unchanged_in_limits (li j v) h)
 over_fits side (li j v) o h k = unchanged_in_limits (li j v) h
 over_fits side (ld j x) (li i u) h k =
-    if_both 1 (nat_le i j) (at_shifted_position j 1 (λ q. one_act (ld q x))) (one_act (ld j x))
+    cond_holds (ActsInLimits 1) (nat_le i j) (at_shifted_position j 1 (λ q. one_act (ld q x))) (one_act (ld j x))
     (raised_fits 1 j 1 (λ q. one_act (ld q x)) (λ q c. one_fits 1 (ld q x) (c, h.1) (omega arith))) (unchanged_in_limits (ld j x) h)
 over_fits side (ld j x) (ld i u) h k =
-    if_both 1 (nat_lt i j) (one_act (ld (j - 1) x)) (if nat_eq i j then no_acts else one_act (ld j x)) (one_fits 1 (ld (j - 1) x) (omega (arith, h.0), h.1) (omega arith))
-    (if_both 1 (nat_eq i j) no_acts (one_act (ld j x)) tt (unchanged_in_limits (ld j x) h))
-over_fits side (ld j x) (lr i u y) h k = if_both 1 (nat_eq i j) no_acts (one_act (ld j x)) tt (unchanged_in_limits (ld j x) h)
+    cond_holds (ActsInLimits 1) (nat_lt i j) (one_act (ld (j - 1) x)) (if nat_eq i j then no_acts else one_act (ld j x)) (one_fits 1 (ld (j - 1) x) (omega (arith, h.0), h.1) (omega arith))
+    (cond_holds (ActsInLimits 1) (nat_eq i j) no_acts (one_act (ld j x)) tt (unchanged_in_limits (ld j x) h))
+over_fits side (ld j x) (lr i u y) h k = cond_holds (ActsInLimits 1) (nat_eq i j) no_acts (one_act (ld j x)) tt (unchanged_in_limits (ld j x) h)
 over_fits side (ld j x) o h k = unchanged_in_limits (ld j x) h
 over_fits side (lr j w z) (li i u) h k =
-    if_both 1 (nat_le i j) (at_shifted_position j 1 (λ q. one_act (lr q w z))) (one_act (lr j w z))
+    cond_holds (ActsInLimits 1) (nat_le i j) (at_shifted_position j 1 (λ q. one_act (lr q w z))) (one_act (lr j w z))
     (raised_fits 1 j 1 (λ q. one_act (lr q w z)) (λ q c. one_fits 1 (lr q w z) (c, h.1, h.2) (omega arith))) (unchanged_in_limits (lr j w z) h)
 over_fits side (lr j w z) (ld i u) h k =
-    if_both 1 (nat_lt i j) (one_act (lr (j - 1) w z)) (if nat_eq i j then one_act (li i z) else one_act (lr j w z))
+    cond_holds (ActsInLimits 1) (nat_lt i j) (one_act (lr (j - 1) w z)) (if nat_eq i j then one_act (li i z) else one_act (lr j w z))
     (one_fits 1 (lr (j - 1) w z) (omega (arith, h.0), h.1, h.2) (omega arith))
-    (if_both 1 (nat_eq i j) (one_act (li i z)) (one_act (lr j w z)) (one_fits 1 (li i z) (k.0, h.2) (omega arith)) (unchanged_in_limits (lr j w z) h))
+    (cond_holds (ActsInLimits 1) (nat_eq i j) (one_act (li i z)) (one_act (lr j w z)) (one_fits 1 (li i z) (k.0, h.2) (omega arith)) (unchanged_in_limits (lr j w z) h))
 over_fits side (lr j w z) (lr i u y) h k =
-    if_both 1 (nat_eq i j) (left_wins_or side (one_act (lr i y z)) no_acts) (one_act (lr j w z))
+    cond_holds (ActsInLimits 1) (nat_eq i j) (left_wins_or side (one_act (lr i y z)) no_acts) (one_act (lr j w z))
     (side_fits 1 side (one_act (lr i y z)) no_acts (one_fits 1 (lr i y z) (k.0, (k.2.0, omega (arith, k.2.1)), h.2) (omega arith)) tt) (unchanged_in_limits (lr j w z) h)
 over_fits side (lr j w z) o h k = unchanged_in_limits (lr j w z) h
 over_fits side (oi l z) (oi m y) h k = put_fits side l m z y (oi l z) h (omega arith) h.0 h.1 k.1
 over_fits side (oi l z) (or m x y) h k = put_fits side l m z y (oi l z) h (omega arith) h.0 h.1 k.2
 over_fits side (oi l z) o h k = unchanged_in_limits (oi l z) h
-over_fits side (od l x) (od m u) h k = if_both 1 (texts_equal m l) no_acts (one_act (od l x)) tt (unchanged_in_limits (od l x) h)
-over_fits side (od l x) (or m u y) h k = if_both 1 (texts_equal m l) no_acts (one_act (od l x)) tt (unchanged_in_limits (od l x) h)
+over_fits side (od l x) (od m u) h k = cond_holds (ActsInLimits 1) (texts_equal m l) no_acts (one_act (od l x)) tt (unchanged_in_limits (od l x) h)
+over_fits side (od l x) (or m u y) h k = cond_holds (ActsInLimits 1) (texts_equal m l) no_acts (one_act (od l x)) tt (unchanged_in_limits (od l x) h)
 over_fits side (od l x) o h k = unchanged_in_limits (od l x) h
 over_fits side (or l w z) (oi m y) h k = put_fits side l m z y (or l w z) h (omega arith) h.0 h.2 k.1
-over_fits side (or l w z) (od m u) h k = if_both 1 (texts_equal m l) (one_act (oi l z)) (one_act (or l w z)) (one_fits 1 (oi l z) (h.0, h.2) (omega arith)) (unchanged_in_limits (or l w z) h)
+over_fits side (or l w z) (od m u) h k = cond_holds (ActsInLimits 1) (texts_equal m l) (one_act (oi l z)) (one_act (or l w z)) (one_fits 1 (oi l z) (h.0, h.2) (omega arith)) (unchanged_in_limits (or l w z) h)
 over_fits side (or l w z) (or m x y) h k = put_fits side l m z y (or l w z) h (omega arith) h.0 h.2 k.2
 over_fits side (or l w z) o h k = unchanged_in_limits (or l w z) h
 
@@ -181,34 +178,19 @@ fit_with (t ∷ p) q s h k g = (h.0, fit_with p q s h.1 k g)
 abbrev StepTransformInLimits : StepTransform → Type 0
 StepTransformInLimits = IfSomeHolds (IfSomeHolds StepInLimits)
 
-moved_if : (b : Bool) (x y : StepTransform) → StepTransformInLimits x → StepTransformInLimits y → StepTransformInLimits (if b then x else y)
-moved_if true x y h k = h
-moved_if false x y h k = k
-
 raised_step : (j : ℕ) (b : Bool) → nat_le (j + 1) 9007199254740991 ≡ b → StepTransformInLimits (if b then Some (Some (index (j + 1))) else None)
 raised_step j true e = leb-true (j + 1) 9007199254740991 e
 raised_step j false e = tt
 
 step_fits : (o : PlainAct) (s : PlainStep) → StepInLimits s → StepTransformInLimits (transform_step o s)
-step_fits (li i v) (index j) h = moved_if (nat_le i j) (if nat_le (j + 1) 9007199254740991 then Some (Some (index (j + 1))) else None) (Some (Some (index j))) (raised_step j (nat_le (j + 1) 9007199254740991) refl) h
+step_fits (li i v) (index j) h = cond_holds StepTransformInLimits (nat_le i j) (if nat_le (j + 1) 9007199254740991 then Some (Some (index (j + 1))) else None) (Some (Some (index j))) (raised_step j (nat_le (j + 1) 9007199254740991) refl) h
 step_fits (ld i x) (index j) h =
-    moved_if (nat_lt i j) (Some (Some (index (j - 1)))) (if nat_eq i j then Some None else Some (Some (index j))) (omega (arith, h)) (moved_if (nat_eq i j) (Some None) (Some (Some (index j))) tt h)
-step_fits (lr i x y) (index j) h = moved_if (nat_eq i j) (Some None) (Some (Some (index j))) tt h
-step_fits (na x) (index j) h = h
-step_fits (si p s) (index j) h = h
-step_fits (sd p s) (index j) h = h
-step_fits (oi k v) (index j) h = h
-step_fits (od k x) (index j) h = h
-step_fits (or k x y) (index j) h = h
-step_fits (od k x) (key l) h = moved_if (texts_equal k l) (Some None) (Some (Some (key l))) tt h
-step_fits (or k x y) (key l) h = moved_if (texts_equal k l) (Some None) (Some (Some (key l))) tt h
-step_fits (na x) (key l) h = h
-step_fits (si p s) (key l) h = h
-step_fits (sd p s) (key l) h = h
-step_fits (li i v) (key l) h = h
-step_fits (ld i x) (key l) h = h
-step_fits (lr i x y) (key l) h = h
-step_fits (oi k v) (key l) h = h
+    cond_holds StepTransformInLimits (nat_lt i j) (Some (Some (index (j - 1)))) (if nat_eq i j then Some None else Some (Some (index j))) (omega (arith, h)) (cond_holds StepTransformInLimits (nat_eq i j) (Some None) (Some (Some (index j))) tt h)
+step_fits (lr i x y) (index j) h = cond_holds StepTransformInLimits (nat_eq i j) (Some None) (Some (Some (index j))) tt h
+step_fits (od k x) (key l) h = cond_holds StepTransformInLimits (texts_equal k l) (Some None) (Some (Some (key l))) tt h
+step_fits (or k x y) (key l) h = cond_holds StepTransformInLimits (texts_equal k l) (Some None) (Some (Some (key l))) tt h
+step_fits o (index j) h = h
+step_fits o (key l) h = h
 
 moved_fits : (c o : PlainComponent) (rest : List PlainStep) (s : PlainStep) (m : StepTransform) → c.path ≡ o.path ++ s ∷ rest → ComponentInLimits 100 c → ComponentInLimits 100 o → StepTransformInLimits m
     → IfSomeHolds (ComponentsInLimits 100) (option_map (with_moved_step c o rest) m)
@@ -234,27 +216,19 @@ below_fits side c o (s ∷ rest) e h k =
     let after = fit_prefix o.path (s ∷ rest) (subst StepsInLimits e h.path) in
     moved_fits c o rest s (transform_step o.act s) e h k (step_fits o.act s after.0)
 
-updated_fits : (x : Value) (r : Option Value) → ValueInLimits 100 x → IfSomeHolds (ValueInLimits 100) r → ValueInLimits 100 (option_map_or (λ y. y) r x)
-updated_fits x None h k = h
-updated_fits x (Some y) h k = k
-
 with_removed_fits : (f : Value → Value) (a : PlainAct) → ((x : Value) → ValueInLimits 100 x → ValueInLimits 100 (f x)) → ActInLimits 100 a → ActInLimits 100 (map_removed f a) × (length (last_step (map_removed f a)) ≡ length (last_step a))
-with_removed_fits f (na x) g h = (h, refl)
-with_removed_fits f (si p s) g h = (h, refl)
-with_removed_fits f (sd p s) g h = (h, refl)
-with_removed_fits f (li i v) g h = (h, refl)
 with_removed_fits f (ld i x) g h = ((h.0, g x h.1), refl)
 with_removed_fits f (lr i x y) g h = ((h.0, g x h.1, h.2), refl)
-with_removed_fits f (oi k v) g h = (h, refl)
 with_removed_fits f (od k x) g h = ((h.0, g x h.1), refl)
 with_removed_fits f (or k x y) g h = ((h.0, g x h.1, h.2), refl)
+with_removed_fits f a g h = (h, refl)
 
 above_fits : (c o : PlainComponent) (r : Option (List PlainStep)) → IfSomeHolds (λ q. length q ≤ length o.path) r → ComponentInLimits 100 c → ComponentInLimits 100 o → ComponentsInLimits 100 (update_removed c o r)
 above_fits c o None l h k = (h, tt)
 above_fits c o (Some rest) l h k =
     let under = component_at rest o.act in
     let short : length rest + length (last_step o.act) ≤ 50 = omega (arith, l, whole_length o.path o.act, k.short) in
-    let r = with_removed_fits (updated_value under) c.act (λ x f. updated_fits x (apply_one under x) f (does_fits under x k.act short f)) h.act in
+    let r = with_removed_fits (updated_value under) c.act (λ x f. opt_or (ValueInLimits 100) (ValueInLimits 100) (λ y. y) (apply_one under x) x (does_fits under x k.act short f) f (λ y g. g)) h.act in
     (record { path = h.path; short = omega (arith, whole_length c.path c.act, whole_length c.path (map_removed (updated_value under) c.act), r.1, h.short); act = r.0 }, tt)
 
 length_bound_cond : (b : Bool) (r : Option (List PlainStep)) (n : ℕ) → IfSomeHolds (λ q. length q ≤ n) r → IfSomeHolds (λ q. length q ≤ suc n) (if b then r else None)
@@ -266,10 +240,6 @@ length_bound_mono : (m n : ℕ) (r : Option (List PlainStep)) → m ≤ n → If
 length_bound_mono m n None h k = tt
 length_bound_mono m n (Some q) h k = omega (arith, h, k)
 
-option_trivial : {A : Type 0} (o : Option A) → IfSomeHolds (λ s. ⊤) o
-option_trivial None = tt
-option_trivial (Some x) = tt
-
 after_short : (front path : List PlainStep) → IfSomeHolds (λ q. length q ≤ length path) (strip_prefix front path)
 after_short [] path = omega arith
 after_short (s ∷ front) [] = tt
@@ -277,7 +247,7 @@ after_short (s ∷ front) (t ∷ path) = length_bound_cond (steps_equal s t) (st
 
 under_short : (c : PlainComponent) (path : List PlainStep) → IfSomeHolds (λ q. length q ≤ length path) (strip_removed_path c path)
 under_short c path =
-    opt_then (λ s. ⊤) (λ q. length q ≤ length path) (λ s. option_and_then (strip_prefix (s ∷ [])) (strip_prefix c.path path)) (removed_step c.act) (option_trivial (removed_step c.act)) (λ s _.
+    opt_then (λ s. ⊤) (λ q. length q ≤ length path) (λ s. option_and_then (strip_prefix (s ∷ [])) (strip_prefix c.path path)) (removed_step c.act) (opt_any (removed_step c.act)) (λ s _.
     opt_then (λ q. length q ≤ length path) (λ q. length q ≤ length path) (strip_prefix (s ∷ [])) (strip_prefix c.path path) (after_short c.path path) (λ q l.
     length_bound_mono (length q) (length path) (strip_prefix (s ∷ []) q) l (after_short (s ∷ []) q)))
 

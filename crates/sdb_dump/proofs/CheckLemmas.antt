@@ -1,6 +1,6 @@
 -- States that the check accepts exactly the dumps of its entries.
 use Rattle.std.proofs.Common.{◌≡◌, ℕ, ◌+◌, List, [], ◌∷◌, ◌++◌, length, map, Bool, true, false, Option, Some, None, Ok, Err, bytes_eq, refl, sym, ap, ap₂, ◌∙◌, subst, arith, append_assoc, append-nil}
-use Rattle.std.specs.Prelude.{if◌then◌else◌, ◌&&◌, nat_eq}
+use Rattle.std.specs.Prelude.{if◌then◌else◌, ◌&&◌, nat_eq, option_and_then}
 use Rattle.std.proofs.lemmas.Bool.{and_parts}
 use Rattle.std.proofs.lemmas.Bool.Decides.{nat_tests}
 use Rattle.std.specs.Option.{option_map_or}
@@ -11,7 +11,7 @@ use Rattle.sdb_oplog.specs.Plain.{PlainEntry}
 use Rattle.sdb_oplog.specs.Decide.{decide}
 use Rattle.sdb_dump.specs.declared.version.DumpVersion.{DumpVersion}
 use Rattle.sdb_dump.specs.declared.version.DumpVersion.TheVariants.{One, Two}
-use Rattle.sdb_dump.specs.DumpLine.{PlainLineContent, read_line, and_then_some}
+use Rattle.sdb_dump.specs.DumpLine.{PlainLineContent, read_line}
 use Rattle.sdb_dump.specs.DumpText.{PlainLine, header_line, count_line, entry_line, dump_lines, log_of_lines, key_not_below, line_content, IsNextLine, AreNextLines, decided_entry, line_of_entry_cond, line_of_read, accepted_line, check_end, check_from, check}
 use Rattle.sdb_dump.specs.CheckLaws.{AreLinesOf}
 use Rattle.sdb_dump.proofs.DecideLemmas.{stored_from, stored_is}
@@ -67,14 +67,14 @@ line_of_entry_right v before l r e x false same is f by read = cc
 
 line_of_read_found : (v : DumpVersion) (before : List PlainLine) (l : List ℕ) (r : PlainLineContent) (x : PlainLine) (b : Bool) (o : Option PlainEntry)
     → key_not_below before r.key ≡ b → decided_entry (log_of_lines before r.key) r.submission r.moment ≡ o → read_line v l ≡ Some r
-    → (if b then and_then_some (line_of_entry_cond v l r) o else None) ≡ Some x → (l ≡ entry_line v x) × IsNextLine v before x
+    → (if b then option_and_then (line_of_entry_cond v l r) o else None) ≡ Some x → (l ≡ entry_line v x) × IsNextLine v before x
 line_of_read_found v before l r x false o f by read e = cc
 line_of_read_found v before l r x true None f by read e = cc
 line_of_read_found v before l r x true (Some y) f by read e =
     line_of_entry_right v before l r y x (nat_eq y.moment r.moment && bytes_eq (entry_line v (record { key = r.key; entry = y })) l) refl e f by read
 
 enter_at : (v : DumpVersion) (before : List PlainLine) (l : List ℕ) (x : PlainLine) (o : Option PlainLineContent) → read_line v l ≡ o
-    → and_then_some (line_of_read v before l) o ≡ Some x → (l ≡ entry_line v x) × IsNextLine v before x
+    → option_and_then (line_of_read v before l) o ≡ Some x → (l ≡ entry_line v x) × IsNextLine v before x
 enter_at v before l x None r e = cc
 enter_at v before l x (Some p) r e =
     line_of_read_found v before l p x (key_not_below before p.key) (decided_entry (log_of_lines before p.key) p.submission p.moment) refl refl r e
@@ -88,9 +88,9 @@ enter_back v before x h =
     let s = x.entry.arrived in
     let l = entry_line v x in
     let by = stored_from (log_of_lines before k) s x.entry.moment x.entry h.decided in
-    ap (and_then_some (line_of_read v before l)) h.read
-    ∙ ap (λ b. if b then and_then_some (line_of_entry_cond v l (line_content x)) (decided_entry (log_of_lines before k) s x.entry.moment) else None) h.ascends
-    ∙ ap (and_then_some (line_of_entry_cond v l (line_content x))) by
+    ap (option_and_then (line_of_read v before l)) h.read
+    ∙ ap (λ b. if b then option_and_then (line_of_entry_cond v l (line_content x)) (decided_entry (log_of_lines before k) s x.entry.moment) else None) h.ascends
+    ∙ ap (option_and_then (line_of_entry_cond v l (line_content x))) by
     ∙ ap₂ (λ a b. if a && b then Some (record { key = k; entry = x.entry }) else None) (same_number x.entry.moment) (same_bytes l)
 
 -- ---- all lines

@@ -1,8 +1,8 @@
 -- Crossing preserves the limits of operations, and rebasing those of contents.
-use Rattle.std.proofs.Common.{ℕ, zero, suc, List, [], ◌∷◌, ◌++◌, length, drop, Bool, true, false, Option, Some, None, Ok, Err, refl, arith}
-use Rattle.std.specs.Prelude.{⊤, if◌then◌else◌, nat_eq, nat_lt, Result}
-use Rattle.std.specs.Option.{option_map_or}
-use Rattle.sdb_component.specs.Plain.{PlainAct, na, si, sd, li, ld, lr, oi, od, or, PlainComponent}
+use Rattle.std.proofs.Common.{ℕ, zero, suc, List, [], ◌∷◌, ◌++◌, length, drop, Option, Some, None, Ok, Err, refl, arith}
+use Rattle.std.specs.Prelude.{⊤, if◌then◌else◌, nat_eq, nat_lt}
+use Rattle.std.specs.Result.{result_ok}
+use Rattle.sdb_component.specs.Plain.{PlainAct, ld, lr, od, or, PlainComponent}
 use Rattle.sdb_transform.specs.declared.side.Side.TheVariants.{Left, Right}
 use Rattle.sdb_transform.specs.Transform.{transform, strip_prefix}
 use Rattle.sdb_transform.specs.Cross.{Crossing, and_then, cross_in, cross, cross_ops, transform_op}
@@ -12,11 +12,10 @@ use Rattle.sdb_oplog.specs.Rebase.{rebase}
 use Rattle.sdb_oplog.specs.Refusal.{result_and_then}
 use Rattle.sdb_oplog.specs.Snap.{apply_content, document_of}
 use Rattle.sdb_oplog.specs.Decide.{base_version, missed_entries, rebased_content}
-use Rattle.sdb_oplog.specs.declared.codes.Code.{Code}
 use Rattle.sdb_oplog.specs.declared.codes.Code.TheVariants.{E4, E8, E11}
 use Rattle.sdb_dump.specs.ValueLimits.{ActInLimits, ComponentsInLimits}
 use Rattle.sdb_dump.specs.EntryLimits.{ContentInLimits}
-use Rattle.sdb_dump.proofs.PathLimits.{IfSomeHolds, opt_map}
+use Rattle.sdb_dump.proofs.HoldsLemmas.{IfSomeHolds, opt_map, opt_any, cond_holds, IfOkHolds, okay_then, okay_map}
 use Rattle.sdb_dump.proofs.ActLimitLemmas.{transform_in_limits_cases}
 
 abbrev BothInLimits : Crossing PlainComponent → Type 0
@@ -49,34 +48,20 @@ rebased_fits op other h k = opt_map BothInLimits (ComponentsInLimits 100) (λ x.
 
 -- ---- contents
 
-abbrev pub OkInLimits : {A E : Type 0} → (A → Type 0) → Result A E → Type 0
-OkInLimits P (Ok x) = P x
-OkInLimits P (Err e) = ⊤
-
 abbrev pub AllContentsInLimits : List PlainEntry → Type 0
 AllContentsInLimits [] = ⊤
 AllContentsInLimits (e ∷ es) = ContentInLimits 100 e.content × AllContentsInLimits es
 
-okay_then : {A B : Type 0} (P : A → Type 0) (Q : B → Type 0) (f : A → Result B Code) (r : Result A Code) → OkInLimits P r → ((x : A) → P x → OkInLimits Q (f x)) → OkInLimits Q (result_and_then f r)
-okay_then P Q f (Ok x) h k = k x h
-okay_then P Q f (Err e) h k = tt
-
-edited_fits : (o : Option (List PlainComponent)) → IfSomeHolds (ComponentsInLimits 100) o → OkInLimits {E = Code} (ContentInLimits 100) (option_map_or (λ c. Ok (edit c)) o (Err E8))
-edited_fits None h = tt
-edited_fits (Some c) h = h
-
-over_fits : (m stored : PlainContent) → ContentInLimits 100 m → ContentInLimits 100 stored → OkInLimits (ContentInLimits 100) (oplog.over m stored)
-over_fits (create v) (create w) h k = tt
-over_fits delete (create w) h k = tt
-over_fits (edit op) (create w) h k = tt
+over_fits : (m stored : PlainContent) → ContentInLimits 100 m → ContentInLimits 100 stored → IfOkHolds (ContentInLimits 100) (oplog.over m stored)
+over_fits m (create w) h k = tt
 over_fits (create v) delete h k = tt
 over_fits delete delete h k = tt
 over_fits (edit op) delete h k = tt
 over_fits (create v) (edit other) h k = tt
 over_fits delete (edit other) h k = tt
-over_fits (edit op) (edit other) h k = edited_fits (transform_op Left op other) (rebased_fits op other h k)
+over_fits (edit op) (edit other) h k = okay_map (ComponentsInLimits 100) (ContentInLimits 100) edit (transform_op Left op other) E8 (rebased_fits op other h k) (λ c f. f)
 
-over_all_fits : (es : List PlainEntry) (m : PlainContent) → ContentInLimits 100 m → AllContentsInLimits es → OkInLimits (ContentInLimits 100) (rebase m es)
+over_all_fits : (es : List PlainEntry) (m : PlainContent) → ContentInLimits 100 m → AllContentsInLimits es → IfOkHolds (ContentInLimits 100) (rebase m es)
 over_all_fits [] m h k = h
 over_all_fits (e ∷ es) m h k =
     okay_then (ContentInLimits 100) (ContentInLimits 100) (λ x. rebase x es) (oplog.over m e.content) (over_fits m e.content h k.0) (λ x f. over_all_fits es x f k.1)
@@ -86,21 +71,13 @@ drop_contents zero es h = h
 drop_contents (suc n) [] h = h
 drop_contents (suc n) (e ∷ es) h = drop_contents n es h.1
 
-either_ok : {A : Type 0} (P : A → Type 0) (b : Bool) (e : Code) (r : Result A Code) → OkInLimits P r → OkInLimits P (if b then Err e else r)
-either_ok P true e r h = tt
-either_ok P false e r h = h
-
 -- a value within depth 50 is within depth 100
 act_more : (a : PlainAct) → ActInLimits 50 a → ActInLimits 100 a
-act_more (na x) h = h
-act_more (si i s) h = h
-act_more (sd i s) h = h
-act_more (li i v) h = h
 act_more (ld i x) h = (h.0, (h.1.0, omega (arith, h.1.1)))
 act_more (lr i x y) h = (h.0, (h.1.0, omega (arith, h.1.1)), h.2)
-act_more (oi k v) h = h
 act_more (od k x) h = (h.0, (h.1.0, omega (arith, h.1.1)))
 act_more (or k x y) h = (h.0, (h.1.0, omega (arith, h.1.1)), h.2)
+act_more a h = h
 
 components_more : (cs : List PlainComponent) → ComponentsInLimits 50 cs → ComponentsInLimits 100 cs
 components_more [] h = tt
@@ -111,17 +88,13 @@ content_more (create v) h = h
 content_more delete h = h
 content_more (edit cs) h = components_more cs h
 
-any_ok : {A : Type 0} (r : Result A Code) → OkInLimits (λ _. ⊤) r
-any_ok (Ok x) = tt
-any_ok (Err e) = tt
-
 -- the rebased content is within the limits
-pub settled_fits : (log : List PlainEntry) (s : PlainSubmission) → AllContentsInLimits log → ContentInLimits 50 s.content → OkInLimits (ContentInLimits 100) (rebased_content log s)
+pub settled_fits : (log : List PlainEntry) (s : PlainSubmission) → AllContentsInLimits log → ContentInLimits 50 s.content → IfOkHolds (ContentInLimits 100) (rebased_content log s)
 settled_fits log s h k =
     let P : PlainContent → Type 0 = ContentInLimits 100 in
     let r = result_and_then (λ m. result_and_then (λ d. Ok m) (apply_content m (document_of log))) (rebase s.content (missed_entries log s)) in
-    either_ok P (nat_eq (length log) 9007199254740991) E11 (if nat_lt (length log) (base_version log s) then Err E4 else r)
-    (either_ok P (nat_lt (length log) (base_version log s)) E4 r
+    cond_holds (IfOkHolds P) (nat_eq (length log) 9007199254740991) (Err E11) (if nat_lt (length log) (base_version log s) then Err E4 else r) tt
+    (cond_holds (IfOkHolds P) (nat_lt (length log) (base_version log s)) (Err E4) r tt
     (okay_then P P (λ m. result_and_then (λ d. Ok m) (apply_content m (document_of log))) (rebase s.content (missed_entries log s))
     (over_all_fits (missed_entries log s) s.content (content_more s.content k) (drop_contents (base_version log s) log h)) (λ m f.
-    okay_then (λ _. ⊤) P (λ d. Ok m) (apply_content m (document_of log)) (any_ok (apply_content m (document_of log))) (λ _ _. f))))
+    okay_then (λ _. ⊤) P (λ d. Ok m) (apply_content m (document_of log)) (opt_any (result_ok (apply_content m (document_of log)))) (λ _ _. f))))

@@ -1,18 +1,16 @@
 -- The documents of a log within the limits.
-use Rattle.std.proofs.Common.{◌≡◌, ℕ, zero, suc, ◌+◌, ◌≤◌, List, [], ◌∷◌, ◌++◌, take, length, Option, Some, None, option_and_then, Result, Ok, Err, sym, ap, subst, ◌∙◌, arith, length-append}
+use Rattle.std.proofs.Common.{◌≡◌, ℕ, zero, suc, List, [], ◌∷◌, ◌++◌, take, Option, Some, None, Ok, Err, subst, arith, length-append}
 use Rattle.std.specs.Prelude.{⊤}
 use Rattle.std.specs.Option.{option_map_or}
 use Rattle.std.specs.Result.{result_ok}
 use Rattle.sdb_value.specs.Value.{Value}
 use Rattle.sdb_component.specs.Plain.{PlainComponent}
-use Rattle.sdb_component.specs.ToJson.{full_path, last_step}
 use Rattle.sdb_apply.specs.Apply.{apply, apply_one}
 use Rattle.sdb_oplog.specs.Keys.{PlainKey}
 use Rattle.sdb_oplog.specs.Plain.{PlainContent, create, delete, edit, PlainEntry}
 use Rattle.sdb_oplog.specs.Refusal.{result_and_then}
-use Rattle.sdb_oplog.specs.Snap.{apply_content, apply_op, snap, snap_from}
+use Rattle.sdb_oplog.specs.Snap.{apply_content, snap, snap_from}
 use Rattle.sdb_oplog.specs.Decide.{IsMade, IsMadeFrom}
-use Rattle.sdb_oplog.specs.declared.codes.Code.{Code}
 use Rattle.sdb_oplog.specs.declared.codes.Code.TheVariants.{E8}
 use Rattle.sdb_dump.specs.declared.version.DumpVersion.{DumpVersion}
 use Rattle.sdb_dump.specs.DumpLaws.{AllInLimits}
@@ -23,7 +21,7 @@ use Rattle.sdb_dump.proofs.AcceptLemmas.{LogInLimits, append_in_limits, contents
 use Rattle.sdb_dump.proofs.ActLimitLemmas.{whole_length}
 use Rattle.sdb_dump.proofs.CrossLimits.{AllContentsInLimits}
 use Rattle.sdb_dump.proofs.EffectLimits.{does_fits}
-use Rattle.sdb_dump.proofs.PathLimits.{IfSomeHolds, opt_then}
+use Rattle.sdb_dump.proofs.HoldsLemmas.{IfSomeHolds, opt_then}
 
 abbrev pub DocumentInLimits : Option Value → Type 0
 DocumentInLimits None = ⊤

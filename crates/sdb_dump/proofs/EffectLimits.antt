@@ -1,21 +1,23 @@
--- The result of an act is well formed and within the depth.
-use Rattle.std.proofs.Common.{◌≡◌, ℕ, suc, ◌+◌, ◌≤◌, max, ℤ, pos, negsuc, List, ◌++◌, length, take, drop, Bool, true, false, Option, Some, None, IsUtf8, refl, arith}
+-- The result of an act is within the limits.
+use Rattle.std.proofs.Common.{◌≡◌, ℕ, suc, ◌+◌, ◌-◌, ◌≤◌, ℤ, pos, negsuc, List, ◌++◌, length, take, drop, Bool, true, false, Option, Some, None, IsUtf8, refl, arith}
 use Rattle.std.specs.Prelude.{if◌then◌else◌, nat_lt, nat_le, nat_eq, int_lt, ◌+ℤ◌, option_map, option_and_then}
 use Rattle.std.specs.List.{insert_slice, remove_range, starts_with}
 use Rattle.std.specs.Str.{IsCharBoundary}
 use Rattle.std.specs.String.Boundary.{IsSplitPoint}
 use Rattle.std.proofs.lemmas.Str.{IsUtf8-append, IsUtf8-take, IsUtf8-drop}
 use Rattle.std.proofs.lemmas.Int.{ints}
-use Rattle.sdb_value.specs.Value.{Value, whole, text, list, object, Items, item, item_count, take_items, drop_items, append_items, insert_item, remove_item, replace_item, depth, items_depth, value_at, with_value_at}
+use Rattle.sdb_value.specs.Value.{Value, whole, text, list, object, Items, item, item_count, take_items, drop_items, append_items, insert_item, remove_item, replace_item, Members, put_member, without_member, value_at, with_value_at}
 use Rattle.sdb_rope.specs.Utf16.{cut_at, insert_text, remove_text}
 use Rattle.sdb_value.specs.FromJson.{checked_whole}
-use Rattle.sdb_value.specs.WellFormed.{IsInRange, IsWellFormed, AreWellFormed}
+use Rattle.sdb_value.specs.WellFormed.{IsInRange}
 use Rattle.sdb_component.specs.Plain.{PlainAct, na, si, sd, li, ld, lr, oi, od, or, PlainComponent}
 use Rattle.sdb_component.specs.ToJson.{last_step}
 use Rattle.sdb_apply.specs.Apply.{apply_act, apply_one}
 use Rattle.sdb_dump.specs.ValueLimits.{ValueInLimits, ActInLimits}
-use Rattle.sdb_dump.proofs.OffsetLemmas.{cut_split, char_boundary, other_end}
-use Rattle.sdb_dump.proofs.PathLimits.{IfSomeHolds, opt_then, opt_map, opt_if, take_well, drop_well, join_well, take_deep, drop_deep, join_deep, put_well, put_deep, without_well, without_deep, at_below, with_fills}
+use Rattle.sdb_rope.proofs.BoundaryLemmas.{char_boundary, other_end}
+use Rattle.sdb_rope.proofs.OffsetLemmas.{cut_split}
+use Rattle.sdb_dump.proofs.HoldsLemmas.{IfSomeHolds, opt_then, opt_map, cond_holds}
+use Rattle.sdb_dump.proofs.PathLimits.{ItemsInLimits, item_in_limits, take_in_limits, drop_in_limits, join_in_limits, MembersInLimits, put_in_limits, without_in_limits, value_at_in_limits, with_value_in_limits}
 
 -- ---- numbers
 
@@ -45,7 +47,7 @@ without_old : (i : ℕ) (s t : List ℕ) (b : Bool) → starts_with nat_eq (drop
 without_old i s t false h u v there = tt
 without_old i s t true h u v there =
     let first = IsUtf8-take t i v (char_boundary t i v there) in
-    let last = IsUtf8-drop t (i + length s) v (other_end t s i v u there h) in
+    let last = IsUtf8-drop t (i + length s) v (char_boundary t (i + length s) v (other_end t s i v u there h)) in
     IsUtf8-append (take i t) (drop (i + length s) t) first last
 
 remove_text_utf8 : (p : ℕ) (s t : List ℕ) (o : Option ℕ) → cut_at t p ≡ o → IsUtf8 s → IsUtf8 t
@@ -56,57 +58,55 @@ remove_text_utf8 p s t (Some i) e u v =
 
 -- ---- acts
 
-abbrev pub EffectInLimits : Value → PlainAct → Value → Type 0
-EffectInLimits u a e = IsWellFormed e × (depth e ≤ max (depth u) (50 + length (last_step a)))
+deeper : (n : ℕ) (v : Value) → 50 ≤ n → ValueInLimits 50 v → ValueInLimits n v
+deeper n v l h = (h.0, omega (arith, h.1, l))
 
-insert_fits : (i : ℕ) (v : Value) (ds : Items) → ValueInLimits 50 v → AreWellFormed ds → IfSomeHolds (λ es. AreWellFormed es × (items_depth es ≤ max (items_depth ds) 50)) (insert_item i v ds)
-insert_fits i v ds h k =
-    opt_if (λ es. AreWellFormed es × (items_depth es ≤ max (items_depth ds) 50)) (nat_le i (item_count ds)) (Some (append_items (take_items i ds) (item v (drop_items i ds)))) None (
-      join_well (take_items i ds) (item v (drop_items i ds)) (take_well i ds k) (h.0, drop_well i ds k),
-      omega (arith, join_deep (take_items i ds) (item v (drop_items i ds)), take_deep i ds, drop_deep i ds, h.1),
-    ) tt
+insert_in_limits : (n i : ℕ) (v : Value) (ds : Items) → ValueInLimits n v → ItemsInLimits n ds → IfSomeHolds (ItemsInLimits n) (insert_item i v ds)
+insert_in_limits n i v ds h k =
+    cond_holds (IfSomeHolds (ItemsInLimits n)) (nat_le i (item_count ds)) (Some (append_items (take_items i ds) (item v (drop_items i ds)))) None
+    (join_in_limits n (take_items i ds) (item v (drop_items i ds)) (take_in_limits n i ds k) (item_in_limits n v (drop_items i ds) h (drop_in_limits n i ds k))) tt
 
-replace_fits : (i : ℕ) (v : Value) (ds : Items) → ValueInLimits 50 v → AreWellFormed ds → IfSomeHolds (λ es. AreWellFormed es × (items_depth es ≤ max (items_depth ds) 50)) (replace_item i v ds)
-replace_fits i v ds h k =
-    opt_if (λ es. AreWellFormed es × (items_depth es ≤ max (items_depth ds) 50)) (nat_lt i (item_count ds)) (Some (append_items (take_items i ds) (item v (drop_items (suc i) ds)))) None (
-      join_well (take_items i ds) (item v (drop_items (suc i) ds)) (take_well i ds k) (h.0, drop_well (suc i) ds k),
-      omega (arith, join_deep (take_items i ds) (item v (drop_items (suc i) ds)), take_deep i ds, drop_deep (suc i) ds, h.1),
-    ) tt
+replace_in_limits : (n i : ℕ) (v : Value) (ds : Items) → ValueInLimits n v → ItemsInLimits n ds → IfSomeHolds (ItemsInLimits n) (replace_item i v ds)
+replace_in_limits n i v ds h k =
+    cond_holds (IfSomeHolds (ItemsInLimits n)) (nat_lt i (item_count ds)) (Some (append_items (take_items i ds) (item v (drop_items (suc i) ds)))) None
+    (join_in_limits n (take_items i ds) (item v (drop_items (suc i) ds)) (take_in_limits n i ds k) (item_in_limits n v (drop_items (suc i) ds) h (drop_in_limits n (suc i) ds k))) tt
 
-remove_fits : (i : ℕ) (ds : Items) → AreWellFormed ds → IfSomeHolds (λ es. AreWellFormed es × (items_depth es ≤ max (items_depth ds) 50)) (remove_item i ds)
-remove_fits i ds k =
-    opt_if (λ es. AreWellFormed es × (items_depth es ≤ max (items_depth ds) 50)) (nat_lt i (item_count ds)) (Some (append_items (take_items i ds) (drop_items (suc i) ds))) None (
-      join_well (take_items i ds) (drop_items (suc i) ds) (take_well i ds k) (drop_well (suc i) ds k),
-      omega (arith, join_deep (take_items i ds) (drop_items (suc i) ds), take_deep i ds, drop_deep (suc i) ds),
-    ) tt
+remove_in_limits : (n i : ℕ) (ds : Items) → ItemsInLimits n ds → IfSomeHolds (ItemsInLimits n) (remove_item i ds)
+remove_in_limits n i ds k =
+    cond_holds (IfSomeHolds (ItemsInLimits n)) (nat_lt i (item_count ds)) (Some (append_items (take_items i ds) (drop_items (suc i) ds))) None
+    (join_in_limits n (take_items i ds) (drop_items (suc i) ds) (take_in_limits n i ds k) (drop_in_limits n (suc i) ds k)) tt
 
-abbrev ItemsInLimits : Items → Items → Type 0
-ItemsInLimits ds es = AreWellFormed es × (items_depth es ≤ max (items_depth ds) 50)
+list_in_limits : (n : ℕ) (ds : Items) (o : Option Items) → ValueInLimits n (list ds) → (ItemsInLimits (n - 1) ds → IfSomeHolds (ItemsInLimits (n - 1)) o) → IfSomeHolds (ValueInLimits n) (option_map list o)
+list_in_limits n ds o h f = opt_map (ItemsInLimits (n - 1)) (ValueInLimits n) list o (f (h.0, omega (arith, h.1))) (λ es r. (r.0, omega (arith, h.1, r.1)))
 
-effect_fits : (a : PlainAct) (u : Value) → ActInLimits 100 a → IsWellFormed u → IfSomeHolds (EffectInLimits u a) (apply_act a u)
-effect_fits (na x) (whole n) h k = opt_map IsInRange (EffectInLimits (whole n) (na x)) whole (checked_whole (n +ℤ x)) (range_fits (n +ℤ x)) (λ z r. (r, omega arith))
-effect_fits (na x) u h k = tt
-effect_fits (si p s) (text t) h k = opt_map IsUtf8 (EffectInLimits (text t) (si p s)) text (insert_text p s t) (insert_text_utf8 p s t (cut_at t p) refl h.1.0 k) (λ z r. (r, omega arith))
-effect_fits (si p s) u h k = tt
-effect_fits (sd p s) (text t) h k = opt_map IsUtf8 (EffectInLimits (text t) (sd p s)) text (remove_text p s t) (remove_text_utf8 p s t (cut_at t p) refl h.1.0 k) (λ z r. (r, omega arith))
-effect_fits (sd p s) u h k = tt
-effect_fits (li i v) (list ds) h k = opt_map (ItemsInLimits ds) (EffectInLimits (list ds) (li i v)) list (insert_item i v ds) (insert_fits i v ds h.1 k) (λ z r. (r.0, omega (arith, r.1)))
-effect_fits (li i v) u h k = tt
-effect_fits (ld i x) (list ds) h k = opt_map (ItemsInLimits ds) (EffectInLimits (list ds) (ld i x)) list (remove_item i ds) (remove_fits i ds k) (λ z r. (r.0, omega (arith, r.1)))
-effect_fits (ld i x) u h k = tt
-effect_fits (lr i x y) (list ds) h k = opt_map (ItemsInLimits ds) (EffectInLimits (list ds) (lr i x y)) list (replace_item i y ds) (replace_fits i y ds h.2 k) (λ z r. (r.0, omega (arith, r.1)))
-effect_fits (lr i x y) u h k = tt
-effect_fits (oi l v) (object ms) h k = (put_well l v ms h.0 h.1.0 k, omega (arith, put_deep l v ms, h.1.1))
-effect_fits (oi l v) u h k = tt
-effect_fits (od l x) (object ms) h k = (without_well l ms k, omega (arith, without_deep l ms))
-effect_fits (od l x) u h k = tt
-effect_fits (or l x y) (object ms) h k = (put_well l y ms h.0 h.2.0 k, omega (arith, put_deep l y ms, h.2.1))
-effect_fits (or l x y) u h k = tt
+object_in_limits : (n : ℕ) (ms ns : Members) → ValueInLimits n (object ms) → (MembersInLimits (n - 1) ms → MembersInLimits (n - 1) ns) → ValueInLimits n (object ns)
+object_in_limits n ms ns h f = let r = f (h.0, omega (arith, h.1)) in (r.0, omega (arith, h.1, r.1))
+
+-- the result of an act on a value that is at most n deep
+effect_in_limits : (n : ℕ) (a : PlainAct) (u : Value) → 50 + length (last_step a) ≤ n → ActInLimits 100 a → ValueInLimits n u → IfSomeHolds (ValueInLimits n) (apply_act a u)
+effect_in_limits n (na x) (whole z) l h k = opt_map IsInRange (ValueInLimits n) whole (checked_whole (z +ℤ x)) (range_fits (z +ℤ x)) (λ y r. (r, omega arith))
+effect_in_limits n (na x) u l h k = tt
+effect_in_limits n (si p s) (text t) l h k = opt_map IsUtf8 (ValueInLimits n) text (insert_text p s t) (insert_text_utf8 p s t (cut_at t p) refl h.1.0 k.0) (λ z r. (r, omega arith))
+effect_in_limits n (si p s) u l h k = tt
+effect_in_limits n (sd p s) (text t) l h k = opt_map IsUtf8 (ValueInLimits n) text (remove_text p s t) (remove_text_utf8 p s t (cut_at t p) refl h.1.0 k.0) (λ z r. (r, omega arith))
+effect_in_limits n (sd p s) u l h k = tt
+effect_in_limits n (li i v) (list ds) l h k = list_in_limits n ds (insert_item i v ds) k (insert_in_limits (n - 1) i v ds (deeper (n - 1) v (omega (arith, l)) h.1))
+effect_in_limits n (li i v) u l h k = tt
+effect_in_limits n (ld i x) (list ds) l h k = list_in_limits n ds (remove_item i ds) k (remove_in_limits (n - 1) i ds)
+effect_in_limits n (ld i x) u l h k = tt
+effect_in_limits n (lr i x y) (list ds) l h k = list_in_limits n ds (replace_item i y ds) k (replace_in_limits (n - 1) i y ds (deeper (n - 1) y (omega (arith, l)) h.2))
+effect_in_limits n (lr i x y) u l h k = tt
+effect_in_limits n (oi k v) (object ms) l h g = object_in_limits n ms (put_member k v ms) g (put_in_limits (n - 1) k v ms h.0 (deeper (n - 1) v (omega (arith, l)) h.1))
+effect_in_limits n (oi k v) u l h g = tt
+effect_in_limits n (od k x) (object ms) l h g = object_in_limits n ms (without_member k ms) g (without_in_limits (n - 1) k ms)
+effect_in_limits n (od k x) u l h g = tt
+effect_in_limits n (or k x y) (object ms) l h g = object_in_limits n ms (put_member k y ms) g (put_in_limits (n - 1) k y ms h.0 (deeper (n - 1) y (omega (arith, l)) h.2))
+effect_in_limits n (or k x y) u l h g = tt
 
 -- a value of depth 100 at most stays one
 pub does_fits : (c : PlainComponent) (d : Value) → ActInLimits 100 c.act → length c.path + length (last_step c.act) ≤ 50 → ValueInLimits 100 d → IfSomeHolds (ValueInLimits 100) (apply_one c d)
 does_fits c d h short k =
-    opt_then (λ u. IsWellFormed u × (length c.path + depth u ≤ depth d)) (ValueInLimits 100) (λ u. option_map (with_value_at d c.path) (apply_act c.act u)) (value_at d c.path) (at_below c.path d k.0) (λ u b.
-    opt_map (EffectInLimits u c.act) (ValueInLimits 100) (with_value_at d c.path) (apply_act c.act u) (effect_fits c.act u h b.0) (λ e m.
-    let w = with_fills c.path d e k.0 m.0 in
-    (w.0, omega (arith, w.1, m.1, b.1, short, k.1))))
+    let n = 100 - length c.path in
+    opt_then (ValueInLimits n) (ValueInLimits 100) (λ u. option_map (with_value_at d c.path) (apply_act c.act u)) (value_at d c.path) (value_at_in_limits c.path 100 n d (omega arith) k) (λ u b.
+    opt_map (ValueInLimits n) (ValueInLimits 100) (with_value_at d c.path) (apply_act c.act u) (effect_in_limits n c.act u (omega (arith, short)) h b) (λ e g.
+    with_value_in_limits c.path 100 n d e (omega (arith, short)) k g))

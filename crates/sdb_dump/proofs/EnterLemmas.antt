@@ -1,37 +1,29 @@
 -- A line that is accepted.
-use Rattle.std.proofs.Common.{◌≡◌, ◌≢◌, ℕ, ◌+◌, ◌<◌, List, [], ◌∷◌, ◌++◌, length, Bool, true, false, cond, Option, Some, None, Less, Equal, Greater, is_eq, IfSome, inl, inr, refl, sym, ap, ap₂, ◌∙◌, subst, arith, append-nil, length-append}
-use Rattle.std.specs.Prelude.{if◌then◌else◌, option_map}
+use Rattle.std.proofs.Common.{◌≡◌, ◌≢◌, ℕ, ◌+◌, List, [], ◌∷◌, ◌++◌, Bool, true, false, cond, Option, Some, None, Less, Equal, Greater, is_eq, IfSome, inl, inr, refl, sym, ap, ap₂, ◌∙◌, subst, arith, append-nil, length-append}
+use Rattle.std.specs.Prelude.{if◌then◌else◌, option_map, option_and_then}
 use Rattle.std.specs.BTreeMap.{insert_entry}
-use Rattle.std.specs.List.{slice_get}
 use Rattle.std.specs.Option.{option_map_or}
 use Rattle.std.specs.Ordering.{is_lt, ordering_reverse}
-use Rattle.std.proofs.Math.Seq.{get_or-append_seam}
 use Rattle.std.proofs.lemmas.Bool.{cases_Bool}
-use Rattle.std.proofs.lemmas.Option.{slice_get-get_or}
-use Rattle.sdb_desk.specs.laws.MapLaws.{updated_of_insert}
+use Rattle.sdb_desk.specs.laws.KeyLaws.{eq_of_keys_equal, keys_equal_refl}
+use Rattle.sdb_desk.specs.laws.MapLaws.{keys_equal_comm, updated_of_insert}
 use Rattle.sdb_oplog.specs.Keys.{PlainKey, Logs, plain_key, compare_keys, keys_equal, with_log}
 use Rattle.sdb_oplog.specs.Plain.{PlainEntry}
 use Rattle.sdb_oplog.specs.declared.keys.Key.{Key}
 use Rattle.sdb_dump.specs.CheckerModel.{last_key, logs_of_map, logs_with_last, IsKeyAbove, AreNotEmpty, CheckerHolds, CheckerContinues, AcceptsOrRejects}
 use Rattle.sdb_dump.specs.DumpText.{PlainLine, log_of_lines, key_not_below, decided_entry, is_text_of_entry, line_of_entry_cond, line_of_read}
-use Rattle.sdb_dump.specs.DumpLine.{PlainLineContent, and_then_some}
+use Rattle.sdb_dump.specs.DumpLine.{PlainLineContent}
 use Rattle.sdb_dump.specs.EntryLimits.{KeyInLimits, SubmissionInLimits, AllKeysInLimits}
 use Rattle.sdb_dump.specs.declared.checker.Checker.{Checker}
 use Rattle.sdb_dump.specs.declared.checker.LastDocument.{LastDocument}
 use Rattle.sdb_dump.specs.declared.version.DumpVersion.{DumpVersion}
-use Rattle.sdb_dump.proofs.AcceptLemmas.{equal_keys, same_as_itself, log_more}
+use Rattle.sdb_dump.proofs.AcceptLemmas.{log_more}
 use Rattle.sdb_dump.proofs.DecideLemmas.{stored_is}
 use Rattle.sdb_dump.proofs.StageLemmas.{follows_is, last_more}
 use Rattle.sdb_dump.proofs.LogMapLemmas.{filled_insert}
 use Rattle.sdb_dump.proofs.ListingLemmas.{compare_keys_reverse, keys_total}
 
 -- ---- the document that a line extends
-
-other_way : (a b : PlainKey) → keys_equal a b ≡ false → keys_equal b a ≡ false
-other_way a b e = elim (cases_Bool (keys_equal b a)) [
-  | inl t ↦ (let s : keys_equal a b ≡ true = subst (λ x. keys_equal a x ≡ true) (sym (equal_keys b a t)) (same_as_itself a) in cc)
-  | inr f ↦ f
-]
 
 no_lines : (xs : List PlainLine) → last_key xs ≡ None → xs ≡ []
 no_lines [] e = refl
@@ -73,10 +65,10 @@ module _ (old mid : Checker) (l : LastDocument) (xs : List PlainLine) (k : Plain
 
   pub takes_same : compare_keys k (plain_key l.key) ≡ Equal → mid.logs.entries ≡ old.logs.entries → CheckerContinues xs k l.document mid
   takes_same e same =
-      let here : k ≡ plain_key l.key = equal_keys k (plain_key l.key) (ap is_eq e) in
+      let here : k ≡ plain_key l.key = eq_of_keys_equal k (plain_key l.key) (ap is_eq e) in
       record {
         follows = follows_at ∙ ap (λ o. if is_lt o then false else true) e;
-        begins = sym (ap (λ b. cond b l.document (logs_of_map old.logs.entries (plain_key l.key))) (same_as_itself (plain_key l.key))) ∙ logs_are (plain_key l.key) ∙ ap (log_of_lines xs) (sym here);
+        begins = sym (ap (λ b. cond b l.document (logs_of_map old.logs.entries (plain_key l.key))) (keys_equal_refl (plain_key l.key))) ∙ logs_are (plain_key l.key) ∙ ap (log_of_lines xs) (sym here);
         others = λ q n.
             ap (λ es. logs_of_map es q) same
             ∙ ap (λ b. cond b l.document (logs_of_map old.logs.entries q)) (sym (subst (λ y. keys_equal y q ≡ false) here n)) ∙ logs_are q;
@@ -101,22 +93,17 @@ module _ (old mid : Checker) (l : LastDocument) (xs : List PlainLine) (k : Plain
 
 -- ---- the state after it
 
-pub last_entry : (log : List PlainEntry) (e : PlainEntry) → slice_get (log ++ e ∷ []) (length log) ≡ Some e
-last_entry log e =
-    let within : length log < length (log ++ e ∷ []) = omega (arith, length-append log (e ∷ [])) in
-    slice_get-get_or (log ++ e ∷ []) (length log) e within ∙ ap Some (get_or-append_seam log e [] e)
-
 logs_after : (f : Logs) (xs : List PlainLine) (x : PlainLine) (log : List PlainEntry) → log ≡ log_of_lines xs x.key
     → ((q : PlainKey) → keys_equal x.key q ≡ false → f q ≡ log_of_lines xs q) → (q : PlainKey) → with_log f x.key (log ++ x.entry ∷ []) q ≡ log_of_lines (xs ++ x ∷ []) q
 logs_after f xs x log is others q = elim (cases_Bool (keys_equal x.key q)) [
   | inl t ↦
-      (let same : x.key ≡ q = equal_keys x.key q t in
-      let back : keys_equal q x.key ≡ true = subst (λ y. keys_equal y x.key ≡ true) same (same_as_itself x.key) in
+      (let same : x.key ≡ q = eq_of_keys_equal x.key q t in
+      let back : keys_equal q x.key ≡ true = keys_equal_comm q x.key ∙ t in
       ap (λ b. cond b (log ++ x.entry ∷ []) (f q)) t ∙ ap (λ l. l ++ x.entry ∷ []) (is ∙ ap (log_of_lines xs) same)
       ∙ sym (log_more xs x q ∙ ap (λ b. log_of_lines xs q ++ cond b (x.entry ∷ []) []) back))
   | inr n ↦
       ap (λ b. cond b (log ++ x.entry ∷ []) (f q)) n ∙ others q n ∙ sym (append-nil (log_of_lines xs q))
-      ∙ sym (log_more xs x q ∙ ap (λ b. log_of_lines xs q ++ cond b (x.entry ∷ []) []) (other_way x.key q n))
+      ∙ sym (log_more xs x q ∙ ap (λ b. log_of_lines xs q ++ cond b (x.entry ∷ []) []) (keys_equal_comm q x.key ∙ n))
 ]
 
 rest_after : (xs : List PlainLine) (x : PlainLine) → ((q : PlainKey) → compare_keys q x.key ≡ Greater → log_of_lines xs q ≡ [])
@@ -137,10 +124,10 @@ module _ (v : DumpVersion) (xs : List PlainLine) (line : List ℕ) (r : PlainLin
   abbrev line_of_entry : PlainEntry → PlainLine
   line_of_entry e = record { key = r.key; entry = e }
 
-  entered_is : (o : Option PlainEntry) → decided_entry log r.submission r.moment ≡ o → line_of_read v xs line r ≡ and_then_some (line_of_entry_cond v line r) o
+  entered_is : (o : Option PlainEntry) → decided_entry log r.submission r.moment ≡ o → line_of_read v xs line r ≡ option_and_then (line_of_entry_cond v line r) o
   entered_is o by =
-      ap (λ b. if b then and_then_some (line_of_entry_cond v line r) (decided_entry (log_of_lines xs r.key) r.submission r.moment) else None) w.follows
-      ∙ ap (and_then_some (line_of_entry_cond v line r)) (ap (λ l. decided_entry l r.submission r.moment) (sym w.begins) ∙ by)
+      ap (λ b. if b then option_and_then (line_of_entry_cond v line r) (decided_entry (log_of_lines xs r.key) r.submission r.moment) else None) w.follows
+      ∙ ap (option_and_then (line_of_entry_cond v line r)) (ap (λ l. decided_entry l r.submission r.moment) (sym w.begins) ∙ by)
 
   pub not_entered : decided_entry log r.submission r.moment ≡ None → line_of_read v xs line r ≡ None
   not_entered by = entered_is None by

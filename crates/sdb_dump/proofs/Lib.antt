@@ -3,7 +3,6 @@ pub mod ActLimitLemmas
 pub mod ReadBackData
 pub mod CheckLemmas
 pub mod ReadBackComponents
-pub mod OffsetLemmas
 pub mod LineSplitLemmas
 pub mod DecideLemmas
 mod DocumentLimits
@@ -14,12 +13,12 @@ pub mod StageLemmas
 pub mod CheckProgress
 pub mod CrossLimits
 pub mod LogMapLemmas
+pub mod HoldsLemmas
 pub mod LimitLemmas
 pub mod OutputLemmas
 pub mod ReadBackEntries
 pub mod ListingLemmas
 pub mod PathLimits
-pub mod PrintLemmas
+pub mod CompactText
 pub mod CheckStageLemmas
-pub mod StoreLemmas
 pub mod ReadBackValues

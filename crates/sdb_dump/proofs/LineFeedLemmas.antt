@@ -1,15 +1,17 @@
--- Written JSON contains no line feed.
-use Rattle.std.proofs.Common.{◌≡◌, ◌≢◌, ℕ, pos, negsuc, zero, suc, ◌<◌, ◌≤◌, ◌^◌, Bool, true, false, not, ◌&&◌, ◌==◌, List, [], ◌∷◌, ◌++◌, length, get_or, decimal, inl, inr, refl, sym, subst, arith}
+-- Compact text contains no line feed.
+use Rattle.std.proofs.Common.{◌≡◌, ◌≢◌, ℕ, pos, negsuc, zero, suc, ◌<◌, Bool, true, false, not, ◌&&◌, ◌==◌, List, [], ◌∷◌, ◌++◌, decimal, inl, inr, refl, sym, subst, arith}
 use Rattle.std.specs.Prelude.{⊤, ◌+◌, ◌/◌, ◌%◌, nat_lt, if◌then◌else◌}
 use Rattle.std.proofs.lemmas.Bool.{and_parts, cases_lt, cases_eq}
 use Rattle.std.proofs.lemmas.Bool.Decides.{nat_tests}
 use Rattle.std.specs.Fmt.{digits, digits_onto, digit_glyph}
-use Rattle.json.specs.Print.{escape_byte, escape, quoted, token_text}
-use Rattle.json.specs.Token as token
+use Rattle.json.specs.Print.{escape_byte, escape, quoted}
+use Rattle.json.proofs.Printed.Utf8.{are_ascii}
 use Rattle.json.proofs.Printed.Strings.{escape_byte_plain}
-use Rattle.serde_json.specs.Data.{Num, unsigned, negative, float, Data, null, boolean, number, string, array, object, Items, no_items, item, Members, no_members, member}
-use Rattle.serde_json.specs.Written.{number_text, comma_if, compact_text, items_text, members_text}
-use Rattle.sdb_dump.specs.laws.SoundData.{IsSafeNumber, IsSoundData, AreSound, MembersSound}
+use Rattle.serde_json.specs.Data.{Num, unsigned, negative, float, Data, number, object, no_members, member}
+use Rattle.serde_json.specs.Written.{number_text, compact_text}
+use Rattle.sdb_dump.specs.laws.SoundData.{IsSafeNumber, IsSoundData}
+use Rattle.sdb_dump.proofs.CompactText.{has_none, TextProperty, compact_has}
+use Rattle.sdb_dump.proofs.HoldsLemmas.{cond_holds}
 
 -- no byte is a line feed
 abbrev pub HasNoLineFeed : List ℕ → Type 0
@@ -19,10 +21,6 @@ HasNoLineFeed (x ∷ xs) = (x ≢ 10) × HasNoLineFeed xs
 pub line_append : (xs ys : List ℕ) → HasNoLineFeed xs → HasNoLineFeed ys → HasNoLineFeed (xs ++ ys)
 line_append [] ys h k = k
 line_append (x ∷ xs) ys h k = (h.0, line_append xs ys h.1 k)
-
-abbrev pub has_none : List ℕ → Bool
-has_none [] = true
-has_none (x ∷ xs) = not (x == 10) && has_none xs
 
 not_feed : (x : ℕ) → not (x == 10) ≡ true → x ≢ 10
 not_feed x e h = grind (arith, nat_tests, e, h)
@@ -59,10 +57,6 @@ escape_line (x ∷ s) = line_append (escape_byte x) (escape s) (byte_line x) (es
 quoted_line : (s : List ℕ) → HasNoLineFeed (quoted s)
 quoted_line s = ((λ e. omega arith), line_append (escape s) (34 ∷ []) (escape_line s) (line_of (34 ∷ []) refl))
 
-either_line : (b : Bool) (xs ys : List ℕ) → HasNoLineFeed xs → HasNoLineFeed ys → HasNoLineFeed (if b then xs else ys)
-either_line true xs ys h k = h
-either_line false xs ys h k = k
-
 glyph_line : (b : Bool) (d : ℕ) → (if b then 48 + d else 87 + d) ≢ 10
 glyph_line true d e = omega (arith, e)
 glyph_line false d e = omega (arith, e)
@@ -71,7 +65,7 @@ digits_line : (k n : ℕ) (ds : List ℕ) → HasNoLineFeed ds → HasNoLineFeed
 digits_line zero n ds h = h
 digits_line (suc k) n ds h =
     let more : HasNoLineFeed (digit_glyph false (n % 10) ∷ ds) = (glyph_line (nat_lt (n % 10) 10) (n % 10), h) in
-    either_line (n / 10 == 0) (digit_glyph false (n % 10) ∷ ds) (digits_onto k 10 false (n / 10) (digit_glyph false (n % 10) ∷ ds)) more
+    cond_holds HasNoLineFeed (n / 10 == 0) (digit_glyph false (n % 10) ∷ ds) (digits_onto k 10 false (n / 10) (digit_glyph false (n % 10) ∷ ds)) more
     (digits_line k (n / 10) (digit_glyph false (n % 10) ∷ ds) more)
 
 decimal_line : (n : ℕ) → HasNoLineFeed (decimal n)
@@ -84,34 +78,11 @@ number_line (negative (pos n)) h = absurd h
 number_line (negative (negsuc n)) h = ((λ e. omega arith), decimal_line (suc n))
 number_line (float x) h = absurd h
 
-truth_line : (b : Bool) → HasNoLineFeed (token_text (token.boolean b))
-truth_line true = line_of (token_text (token.boolean true)) refl
-truth_line false = line_of (token_text (token.boolean false)) refl
+line_feed_free : TextProperty HasNoLineFeed
+line_feed_free = record { join = line_append; plain = λ xs e. line_of xs (and_parts (are_ascii xs) (has_none xs) e).1; number = number_line; quote = λ s h. quoted_line s }
 
-comma_line : (b : Bool) → HasNoLineFeed (comma_if b)
-comma_line true = line_of (44 ∷ []) refl
-comma_line false = tt
-
-mutual
-  pub compact_line : (d : Data) → IsSoundData d → HasNoLineFeed (compact_text d)
-  compact_line null h = line_of (token_text token.null) refl
-  compact_line (boolean b) h = truth_line b
-  compact_line (number n) h = number_line n h
-  compact_line (string s) h = quoted_line s
-  compact_line (array ds) h = ((λ e. omega arith), items_line false ds h)
-  compact_line (object ms) h = ((λ e. omega arith), members_line false ms h)
-
-  items_line : (later : Bool) (ds : Items) → AreSound ds → HasNoLineFeed (items_text later ds)
-  items_line later no_items h = line_of (93 ∷ []) refl
-  items_line later (item d ds) h =
-      line_append (comma_if later) _ (comma_line later) (line_append (compact_text d) _ (compact_line d h.0) (items_line true ds h.1))
-
-  members_line : (later : Bool) (ms : Members) → MembersSound ms → HasNoLineFeed (members_text later ms)
-  members_line later no_members h = line_of (125 ∷ []) refl
-  members_line later (member k d ms) h =
-      line_append (comma_if later) _ (comma_line later)
-      (line_append (quoted k) _ (quoted_line k)
-      ((λ e. omega arith), line_append (compact_text d) _ (compact_line d h.1) (members_line true ms h.3)))
+pub compact_line : (d : Data) → IsSoundData d → HasNoLineFeed (compact_text d)
+compact_line d h = compact_has HasNoLineFeed line_feed_free d h
 
 -- an object of one number, however great
 pub number_member_line : (k : List ℕ) (n : ℕ) → HasNoLineFeed (compact_text (object (member k (number (unsigned n)) no_members)))

@@ -1,16 +1,13 @@
 -- States that a text is accepted if and only if it is a dump.
-use Rattle.std.proofs.Common.{◌≡◌, ℕ, ◌<◌, List, [], ◌∷◌, ◌++◌, length, map, Bool, true, false, ◌==◌, Ok, refl, sym, ap, ap₂, ◌∙◌, arith, append_assoc, append-nil, ne_eqb}
-use Rattle.std.specs.Prelude.{⊤, ◌^◌, codes, if◌then◌else◌}
+use Rattle.std.proofs.Common.{◌≡◌, ℕ, List, [], ◌∷◌, ◌++◌, length, map, Bool, true, false, ◌==◌, Ok, refl, sym, ap, ap₂, ◌∙◌, arith, append_assoc, append-nil, ne_eqb}
+use Rattle.std.specs.Prelude.{⊤, codes, if◌then◌else◌}
 use Rattle.std.proofs.lemmas.Bool.Decides.{nat_tests}
 use Rattle.sdb_dump.specs.DumpText.{PlainLine, count_line, entry_line, dump_lines, ended_lines, dump_text, check}
 use Rattle.sdb_dump.specs.DumpLaws.{AllInLimits, IsDumpOfLogs}
 use Rattle.sdb_dump.proofs.AcceptLemmas.{AllLinesInLimits, all_fit, dumps_accepted, accepted_next}
 use Rattle.sdb_dump.specs.declared.version.DumpVersion.{DumpVersion}
-use Rattle.sdb_dump.specs.declared.version.DumpVersion.TheVariants.{One, Two}
 use Rattle.sdb_dump.specs.DumpLine.{dump_version_number, written_moment, line_data}
 use Rattle.sdb_dump.proofs.ReadBackEntries.{line_sound, shown_counts}
-use Rattle.sdb_dump.specs.laws.SoundData.{IsSoundData}
-use Rattle.serde_json.specs.Data.{number, unsigned, object, no_members, member}
 use Rattle.sdb_dump.specs.LineSplit.{cons_line, split_lines, check_text}
 use Rattle.sdb_dump.proofs.LineFeedLemmas.{HasNoLineFeed}
 use Rattle.sdb_dump.specs.EntryLimits.{AllKeysInLimits}

@@ -16,7 +16,10 @@ use Rattle.sdb_dump.specs.LogListing.{lines_of_log, lines_of_logs, DumpText}
 use Rattle.sdb_dump.specs.LogDumps.{AreDumpable, TextIsOfLogs}
 use Rattle.sdb_dump.specs.EntryLimits.{KeyInLimits, MomentInLimits, SubmissionInLimits, AllKeysInLimits}
 use Rattle.sdb_dump.specs.WriteModel.{HasEntryCount}
-use Rattle.sdb_dump.proofs.AcceptLemmas.{equal_keys, same_as_itself}
+use Rattle.sdb_dump.proofs.AcceptLemmas.{log_append}
+use Rattle.sdb_dump.proofs.StageLemmas.{follows_is, last_more}
+use Rattle.sdb_desk.specs.laws.KeyLaws.{eq_of_keys_equal, keys_equal_refl}
+use Rattle.std.specs.Option.{option_map_or}
 use Rattle.sdb_dump.proofs.LineSplitLemmas.{text_accepted, text_only, text_next}
 use Rattle.sdb_desk.specs.Machine.{is_nonempty}
 use Rattle.sdb_desk.specs.StoredKeys.{IsKeyList}
@@ -51,14 +54,6 @@ is_listed = is_member keys_equal
 
 -- ---- the log of a key
 
-cond_append : (b : Bool) (x : PlainLine) (es fs more : List PlainEntry) → fs ≡ es ++ more → cond b (x.entry ∷ fs) fs ≡ cond b (x.entry ∷ es) es ++ more
-cond_append true x es fs more e = ap (λ l. x.entry ∷ l) e
-cond_append false x es fs more e = e
-
-log_append : (xs ys : List PlainLine) (k : PlainKey) → log_of_lines (xs ++ ys) k ≡ log_of_lines xs k ++ log_of_lines ys k
-log_append [] ys k = refl
-log_append (x ∷ xs) ys k = cond_append (keys_equal k x.key) x (log_of_lines xs k) (log_of_lines (xs ++ ys) k) (log_of_lines ys k) (log_append xs ys k)
-
 log_of : (j : PlainKey) (es : List PlainEntry) (k : PlainKey) (b : Bool) → keys_equal k j ≡ b → log_of_lines (lines_of_log j es) k ≡ cond b es []
 log_of j [] k true e = refl
 log_of j [] k false e = refl
@@ -73,7 +68,7 @@ log_first : (f : Logs) (j : PlainKey) (ks : List PlainKey) (k : PlainKey) (b : B
     → log_of_lines (lines_of_log j (f j)) k ++ log_of_lines (lines_of_logs f ks) k ≡ cond (b || is_listed ks k) (f k) []
 unfolding IsStrictlySortedBy
 log_first f j ks k true e h below =
-    let g : k ≡ j = equal_keys k j e in
+    let g : k ≡ j = eq_of_keys_equal k j e in
     let none : is_listed ks k ≡ false = subst (λ q. is_listed ks q ≡ false) (sym g) (not_later j ks h.0) in
     ap₂ (λ a b. a ++ b) (log_of j (f j) k true e) (below ∙ ap (λ b. cond b (f k) []) none) ∙ append-nil (f j) ∙ ap f (sym g)
 log_first f j ks k false e h below = ap₂ (λ a b. a ++ b) (log_of j (f j) k false e) below
@@ -95,9 +90,7 @@ logs_are f ks h k = log_all f ks k h.in_order ∙ whole_log (f k) (is_listed ks 
 -- ---- order
 
 follows_last : (before : List PlainLine) (x : PlainLine) (k : PlainKey) → key_not_below (before ++ x ∷ []) k ≡ (if is_lt (compare_keys k x.key) then false else true)
-follows_last [] x k = refl
-follows_last (y ∷ []) x k = refl
-follows_last (y ∷ z ∷ before) x k = follows_last (z ∷ before) x k
+follows_last before x k = follows_is (before ++ x ∷ []) k ∙ ap (λ o. option_map_or (λ l. if is_lt (compare_keys k l) then false else true) o true) (last_more before x)
 
 abbrev ReadyToList : List PlainLine → List PlainKey → Type 0
 ReadyToList before [] = ⊤
@@ -186,7 +179,7 @@ empty_log (x ∷ es) e = cc
 
 -- the log of the first entry's key, and the logs of other keys
 log_here : (x : PlainLine) (xs : List PlainLine) → log_of_lines (x ∷ xs) x.key ≡ x.entry ∷ log_of_lines xs x.key
-log_here x xs = ap (λ b. cond b (x.entry ∷ log_of_lines xs x.key) (log_of_lines xs x.key)) (same_as_itself x.key)
+log_here x xs = ap (λ b. cond b (x.entry ∷ log_of_lines xs x.key) (log_of_lines xs x.key)) (keys_equal_refl x.key)
 
 logs_there : (x : PlainLine) (xs : List PlainLine) (ks : List PlainKey) → IsKeyBelowEach x.key ks → lines_of_logs (log_of_lines (x ∷ xs)) ks ≡ lines_of_logs (log_of_lines xs) ks
 logs_there x xs ks h = same_logs (log_of_lines (x ∷ xs)) (log_of_lines xs) x.key ks h (λ k e. ap (λ b. cond b (x.entry ∷ log_of_lines xs k) (log_of_lines xs k)) e)
@@ -215,7 +208,7 @@ sorted_none = record { order = tt; whole = λ k. refl; list = refl }
 
 sorted_more : (x : PlainLine) (xs : List PlainLine) (j : PlainKey) (js : List PlainKey) (b : Bool) → keys_equal x.key j ≡ b → is_lt (compare_keys j x.key) ≡ false → SortedLines xs (j ∷ js) → (ks : List PlainKey) × SortedLines (x ∷ xs) (x.key ∷ ks)
 unfolding IsStrictlySortedBy
-sorted_more x xs j js true e h s = (js, sorted_same x xs js (subst (λ q. SortedLines xs (q ∷ js)) (sym (equal_keys x.key j e)) s))
+sorted_more x xs j js true e h s = (js, sorted_same x xs js (subst (λ q. SortedLines xs (q ∷ js)) (sym (eq_of_keys_equal x.key j e)) s))
 sorted_more x xs j js false e h s =
     let less = less_of (compare_keys x.key j) e (ap is_lt (sym (compare_keys_reverse j x.key)) ∙ h) in
     (j ∷ js, sorted_new x xs (j ∷ js) (less, below_all x.key j js less s.order.0) s)
@@ -243,7 +236,7 @@ within_logs v f (k ∷ ks) h = within_append v (lines_of_log k (f k)) (lines_of_
 -- the log of each key is within the limits
 within_or : (v : DumpVersion) (b : Bool) (k : PlainKey) (x : PlainLine) (es : List PlainEntry) → keys_equal k x.key ≡ b
     → KeyInLimits x.key → MomentInLimits v x.entry.moment → SubmissionInLimits x.entry.arrived → AllInLimits v (lines_of_log k es) → AllInLimits v (lines_of_log k (cond b (x.entry ∷ es) es))
-within_or v true k x es e key moment sent h = (subst KeyInLimits (sym (equal_keys k x.key e)) key, moment, sent, h)
+within_or v true k x es e key moment sent h = (subst KeyInLimits (sym (eq_of_keys_equal k x.key e)) key, moment, sent, h)
 within_or v false k x es e key moment sent h = h
 
 within_log : (v : DumpVersion) (xs : List PlainLine) (k : PlainKey) → AllInLimits v xs → AllInLimits v (lines_of_log k (log_of_lines xs k))

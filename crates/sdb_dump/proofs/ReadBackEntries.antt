@@ -1,6 +1,6 @@
 -- The line of an entry parses to its submission.
 use Rattle.std.proofs.Common.{◌≡◌, ℕ, ◌+◌, ◌<◌, ◌≤◌, List, length, Option, Some, None, true, IsUtf8, Ok, refl, sym, ap, ◌∙◌, arith}
-use Rattle.std.specs.Prelude.{◌^◌, if◌then◌else◌, nat_lt, codes}
+use Rattle.std.specs.Prelude.{◌^◌, if◌then◌else◌, nat_lt, codes, option_and_then}
 use Rattle.std.proofs.lemmas.Bool.Decides.{nat_tests}
 use Rattle.json.proofs.Printed.Utf8.{are_ascii, IsUtf8-are_ascii}
 use Rattle.serde_json.specs.Data as raw
@@ -19,13 +19,13 @@ use Rattle.sdb_dump.specs.laws.SoundData.{IsSoundData, MembersSound, IsKeyBelowA
 use Rattle.sdb_dump.specs.ValueLimits.{IsSafeInteger, ValueInLimits, ComponentsInLimits}
 use Rattle.std.proofs.lemmas.Str.{is_utf8-from_IsUtf8}
 use Rattle.sdb_dump.proofs.ReadBackData.{read_compact}
-use Rattle.sdb_dump.proofs.PrintLemmas.{utf8_compact}
+use Rattle.sdb_dump.proofs.CompactText.{utf8_compact}
 use Rattle.sdb_dump.proofs.ReadBackValues.{value_sound, value_deep, profile_back}
 use Rattle.sdb_dump.proofs.ReadBackComponents.{count_back, op_back, op_sound, op_deep}
 use Rattle.sdb_dump.specs.DumpText.{PlainLine, entry_line, line_content}
 use Rattle.sdb_dump.specs.declared.version.DumpVersion.{DumpVersion}
 use Rattle.sdb_dump.specs.declared.version.DumpVersion.TheVariants.{One, Two}
-use Rattle.sdb_dump.specs.DumpLine.{written_moment, optional_version_data, arrived_members, arrived_data, content_members_with_moment, line_tail, line_data, and_then_some, arrived_of_data, moment_of_data, line_of_data, read_line}
+use Rattle.sdb_dump.specs.DumpLine.{written_moment, optional_version_data, arrived_members, arrived_data, content_members_with_moment, line_tail, line_data, arrived_of_data, moment_of_data, line_of_data, read_line}
 use Rattle.sdb_dump.specs.EntryLimits.{NameInLimits, KeyInLimits, MomentInLimits, OptionalCountInLimits, ContentInLimits, OpLengthInLimits, SubmissionInLimits, EntryInLimits}
 
 -- ---- soundness
@@ -211,6 +211,6 @@ line_reads_back v x f h =
     let o = written_moment v e.moment in
     let d = line_data k e o in
     let sound = line_sound v k e o f h (shown_counts v e.moment h.moment) in
-    ap (λ b. if b then and_then_some (line_of_data v) (read (compact_text d)) else None) (is_utf8-from_IsUtf8 (compact_text d) (utf8_compact d sound))
-    ∙ ap (and_then_some (line_of_data v)) (read_compact d sound (line_deep v k e o h))
+    ap (λ b. if b then option_and_then (line_of_data v) (read (compact_text d)) else None) (is_utf8-from_IsUtf8 (compact_text d) (utf8_compact d sound))
+    ∙ ap (option_and_then (line_of_data v)) (read_compact d sound (line_deep v k e o h))
     ∙ line_by v d k e (line_has k e.content o e) (moment_back v k e h.moment) f h.arrived

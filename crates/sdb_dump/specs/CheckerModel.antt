@@ -57,9 +57,9 @@ pub record CheckerContinues (xs : List PlainLine) (k : PlainKey) (log : List Pla
   pub filled : AreNotEmpty c.logs.entries
   pub rest : (q : PlainKey) → compare_keys q k ≡ Greater → log_of_lines xs q ≡ []
 
-abbrev pub TakesDecidedLog : List PlainLine → PlainKey → Checker → Option (List PlainEntry) → Type 0
-TakesDecidedLog xs k c None = key_not_below xs k ≡ false
-TakesDecidedLog xs k c (Some log) = CheckerContinues xs k log c
+abbrev pub TakesDocument : List PlainLine → PlainKey → Checker → Option (List PlainEntry) → Type 0
+TakesDocument xs k c None = key_not_below xs k ≡ false
+TakesDocument xs k c (Some log) = CheckerContinues xs k log c
 
 abbrev pub IsAtStage : Stage → PlainStage → Checker → Type 0
 IsAtStage Header head c = CheckerHolds c []

@@ -1,5 +1,5 @@
 -- The line of an entry, and the submission to which a line parses. A line is compact JSON (RFC 8259).
-use Rattle.std.specs.Prelude.{ℕ, List, true, if◌then◌else◌, Option, Some, None, codes}
+use Rattle.std.specs.Prelude.{ℕ, List, true, if◌then◌else◌, Option, Some, None, codes, option_and_then}
 use Rattle.std.specs.Result.{result_ok}
 use Rattle.std.specs.Str.{is_utf8}
 use Rattle.serde_json.specs.Data.{Data, null, boolean, number, unsigned, string, object, Members, no_members, member}
@@ -77,19 +77,15 @@ line_text k e o = compact_text (line_data k e o)
 
 -- ---- parsing
 
-abbrev pub and_then_some : {A B : Type 0} → (A → Option B) → Option A → Option B
-and_then_some f None = None
-and_then_some f (Some x) = f x
-
 -- the submitted content and the base version
 abbrev pub arrived_of_data : Data → Option (PlainContent × Option ℕ)
 arrived_of_data d =
-    and_then_some (λ m. and_then_some (λ v. Some (m, v)) (result_ok (read_optional count_of (present_member (codes "v") d)))) (result_ok (content_of d))
+    option_and_then (λ m. option_and_then (λ v. Some (m, v)) (result_ok (read_optional count_of (present_member (codes "v") d)))) (result_ok (content_of d))
 
 -- the source, the collection name and the pass number
 abbrev pub sent_of_data : Data → PlainContent × Option ℕ → ℕ → Option PlainSubmission
 sent_of_data d a n =
-    and_then_some (λ s. and_then_some (λ w. and_then_some (λ b.
+    option_and_then (λ s. option_and_then (λ w. option_and_then (λ b.
     Some (record { src = s; seq = n; version = a.1; content = a.0; via = w; by = b }))
     (count_member (codes "by") d))
     (name_member (codes "via") d))
@@ -97,7 +93,7 @@ sent_of_data d a n =
 
 abbrev pub submission_of_data : Data → Option PlainSubmission
 submission_of_data d =
-    and_then_some (λ a. and_then_some (sent_of_data d a) (count_member (codes "seq") d)) (and_then_some arrived_of_data (get (codes "arrived") d))
+    option_and_then (λ a. option_and_then (sent_of_data d a) (count_member (codes "seq") d)) (option_and_then arrived_of_data (get (codes "arrived") d))
 
 -- the moment, or 0 if the version has no moments
 abbrev pub moment_of_data : DumpVersion → Data → Option ℕ
@@ -112,11 +108,11 @@ pub record PlainLineContent : Type 0 where
 
 abbrev pub line_of_data : DumpVersion → Data → Option PlainLineContent
 line_of_data v d =
-    and_then_some (λ k. and_then_some (λ s. and_then_some (λ m. Some (record { key = k; submission = s; moment = m }))
+    option_and_then (λ k. option_and_then (λ s. option_and_then (λ m. Some (record { key = k; submission = s; moment = m }))
     (moment_of_data v d))
     (submission_of_data d))
     (result_ok (key_of d))
 
 -- the content of a line; one that isn't UTF-8 has none
 abbrev pub read_line : DumpVersion → List ℕ → Option PlainLineContent
-read_line v line = if is_utf8 line then and_then_some (line_of_data v) (read line) else None
+read_line v line = if is_utf8 line then option_and_then (line_of_data v) (read line) else None

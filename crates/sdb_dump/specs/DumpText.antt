@@ -1,17 +1,16 @@
 -- The text of a dump, and the result of its check.
-use Rattle.std.specs.Prelude.{◌≡◌, ℕ, ◌+◌, List, [], ◌∷◌, ◌++◌, Bool, true, false, cond, if◌then◌else◌, length, map, nat_eq, ◌&&◌, bytes_eq, codes, Option, Some, None, Result, Ok, Err, ⊤}
+use Rattle.std.specs.Prelude.{◌≡◌, ℕ, ◌+◌, List, [], ◌∷◌, ◌++◌, Bool, true, false, cond, if◌then◌else◌, length, map, nat_eq, ◌&&◌, bytes_eq, codes, Option, Some, None, Result, Ok, Err, ⊤, option_and_then}
+use Rattle.std.specs.List.{slice_get}
 use Rattle.std.specs.Option.{option_map_or}
 use Rattle.std.specs.Ordering.{is_lt}
 use Rattle.serde_json.specs.Data.{number, unsigned, object, no_members, member}
 use Rattle.serde_json.specs.Written.{compact_text}
-use Rattle.sdb_oplog.specs.Decide.{decide, rebased_content, new_entry}
+use Rattle.sdb_oplog.specs.Decide.{decide}
 use Rattle.sdb_oplog.specs.Keys.{PlainKey, compare_keys, keys_equal}
-use Rattle.sdb_oplog.specs.Plain.{PlainContent, PlainSubmission, PlainEntry}
-use Rattle.sdb_oplog.specs.declared.codes.Code.{Code}
-use Rattle.sdb_oplog.specs.Snap.{stored_at}
+use Rattle.sdb_oplog.specs.Plain.{PlainSubmission, PlainEntry}
 use Rattle.sdb_dump.specs.declared.version.DumpVersion.{DumpVersion}
 use Rattle.sdb_dump.specs.declared.version.DumpVersion.TheVariants.{One, Two}
-use Rattle.sdb_dump.specs.DumpLine.{dump_version_number, written_moment, line_text, PlainLineContent, read_line, and_then_some}
+use Rattle.sdb_dump.specs.DumpLine.{dump_version_number, written_moment, line_text, PlainLineContent, read_line}
 
 -- an entry of the log of a key
 pub record PlainLine : Type 0 where
@@ -71,13 +70,8 @@ AreNextLines v before (x ∷ xs) = IsNextLine v before x × AreNextLines v (befo
 -- ---- the checker
 
 -- the entry that `decide` stores, if any
-abbrev pub decided_entry_cond : Option ℕ → List PlainEntry → PlainSubmission → ℕ → Result PlainContent Code → Option PlainEntry
-decided_entry_cond (Some i) log s now r = None
-decided_entry_cond None log s now (Err e) = None
-decided_entry_cond None log s now (Ok m) = Some (new_entry log s now m)
-
 abbrev pub decided_entry : List PlainEntry → PlainSubmission → ℕ → Option PlainEntry
-decided_entry log s now = decided_entry_cond (stored_at s.src s.seq log) log s now (rebased_content log s)
+decided_entry log s now = slice_get (decide log s now).log (length log)
 
 -- the entry of the key has this moment, and its line is this text
 abbrev pub is_text_of_entry : DumpVersion → List ℕ → PlainKey → ℕ → PlainEntry → Bool
@@ -94,11 +88,11 @@ line_of_entry_cond v line r e =
 abbrev pub line_of_read : DumpVersion → List PlainLine → List ℕ → PlainLineContent → Option PlainLine
 line_of_read v before line r =
     if key_not_below before r.key
-    then and_then_some (line_of_entry_cond v line r) (decided_entry (log_of_lines before r.key) r.submission r.moment)
+    then option_and_then (line_of_entry_cond v line r) (decided_entry (log_of_lines before r.key) r.submission r.moment)
     else None
 
 abbrev pub accepted_line : DumpVersion → List PlainLine → List ℕ → Option PlainLine
-accepted_line v before line = and_then_some (line_of_read v before line) (read_line v line)
+accepted_line v before line = option_and_then (line_of_read v before line) (read_line v line)
 
 -- no line follows the count
 abbrev pub check_end : List PlainLine → ℕ → List (List ℕ) → List ℕ → Result (List PlainLine) ℕ

@@ -10,7 +10,6 @@ pub mod LogListing
 pub mod LogDumps
 pub mod PrintLaws
 pub mod CheckStages
-pub mod DecideModel
 pub mod CheckText
 pub mod Utf8Facts
 pub mod View

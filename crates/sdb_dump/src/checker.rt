@@ -1,9 +1,9 @@
 //! The checker of a dump's lines.
 ghost use Rattle.std.specs.Prelude.{◌≡◌, ◌+◌, ◌^◌, ◌<◌, ◌≤◌, List, [], Option, None, OnOk, IfOk, IfErr, IfSome, IsErrOf, option_map, unwrap_or, string_bytes, Ok};
 ghost use Rattle.std.specs.BTreeMap.{insert_entry};
-ghost use Rattle.sdb_oplog.specs.Decide.{IsMade};
+ghost use Rattle.sdb_oplog.specs.Decide.{decide, IsMade};
 ghost use Rattle.sdb_oplog.specs.Keys.{compare_keys, plain_key};
-ghost use Rattle.sdb_dump.specs.CheckerModel.{CheckerAtStage, AcceptsOrRejects, AcceptedHasAll, CheckerHolds, TakesDecidedLog, accepted_logs};
+ghost use Rattle.sdb_dump.specs.CheckerModel.{CheckerAtStage, AcceptsOrRejects, AcceptedHasAll, CheckerHolds, TakesDocument, accepted_logs};
 ghost use Rattle.sdb_dump.specs.DumpText.{PlainLine, count_line, accepted_line, line_of_read, is_text_of_entry, version_of};
 ghost use Rattle.sdb_dump.specs.Faults.{IsDumpFault, IsStageFault};
 ghost use Rattle.sdb_dump.specs.View.{plain_line_content};
@@ -12,10 +12,11 @@ ghost use Rattle.sdb_dump.specs.CheckStages.{PlainStage, stage_after_line, stage
 ghost use Rattle.sdb_dump.specs.declared.checker.Stage.TheVariants.{Header, Body};
 ghost use Rattle.sdb_dump.specs.declared.checker.DumpFault.TheVariants.{OutOfMemory, WrongLine};
 
-use crate::document::{DecidedLog, MadeLog};
 use crate::dump_line::{LineContent, line_text, read_line};
+use crate::made_log::MadeLog;
 use crate::version::DumpVersion;
-use sdb_oplog::{Entry, Key, Log, Moment};
+use sdb_oplog::{DecidedLog, Entry, Key, Log, Moment, Rejection, Submission};
+use sdb_wire::refusal_code;
 use std::alloc::{AllocError, Global};
 use std::cmp::Ordering;
 use std::collections::BTreeMap;
@@ -197,13 +198,11 @@ impl Checker {
             submission,
             moment,
         } = read;
-        let Some(before) = self.take_decided_log(&key)? else {
+        let Some(mut document) = self.take_document(&key)? else {
             return Ok(false);
         };
-        let at = before.log().len();
-        let Some(document) = before.append_decided(self.alloc, submission, moment)? else {
-            return Ok(false);
-        };
+        let at = document.log().len();
+        decide(self.alloc, &mut document, submission, moment)?;
         let Some(entry) = document.log().get(at) else {
             return Ok(false);
         };
@@ -215,11 +214,11 @@ impl Checker {
 
     // Takes the document that a line of this key extends: the last one, or an empty one if the key
     // is greater. Returns `None` if the key is smaller.
-    fn take_decided_log(&mut self, key: &Key) -> Result<Option<DecidedLog>, AllocError>
+    fn take_document(&mut self, key: &Key) -> Result<Option<DecidedLog>, AllocError>
         ensures stage_unchanged { self.new.stage ≡ self.old.stage }
         ensures entries { self.new.entries ≡ self.old.entries }
-        ensures taken_log { IfOk result (λ d. (xs : List PlainLine) → CheckerHolds self.old xs →
-            TakesDecidedLog xs (plain_key key.now) self.new d) }
+        ensures taken { IfOk result (λ d. (xs : List PlainLine) → CheckerHolds self.old xs →
+            TakesDocument xs (plain_key key.now) self.new d) }
     {
         let Some(last) = self.last.take() else {
             return Ok(Some(DecidedLog::new(self.alloc)));
@@ -244,7 +243,7 @@ impl Checker {
         ensures entries { self.new.entries ≡ self.old.entries }
     {
         let LastDocument { key, document } = last;
-        drop(self.logs.insert(key, document.into_log())?);
+        drop(self.logs.insert(key, MadeLog::new(document))?);
         Ok(())
     }
 
@@ -288,6 +287,25 @@ impl Checker {
     {
         DumpFault::WrongLine {
             line: self.entries + behind,
+        }
+    }
+}
+
+// Decides a submission at a moment, and appends it unless it is rejected.
+fn decide(
+    alloc: Global,
+    document: &mut DecidedLog,
+    submission: Submission,
+    now: Moment,
+) -> Result<(), AllocError>
+    ensures { OnOk result (document.new ≡ (decide document.old submission now).log) }
+{
+    match document.decide(alloc, submission, now) {
+        Ok(_) => Ok(()),
+        Err(Rejection::Repeat { .. }) => Ok(()),
+        Err(Rejection::Refused(code)) => {
+            refusal_code(code)?;
+            Ok(())
         }
     }
 }

@@ -300,8 +300,8 @@ fn read_arrived<D: JsonData>(
     Ok(Some((content, version)))
 }
 
-/// Returns `None` for a refusal; only an allocation failure is an error.
-pub(crate) fn none_if_refused<T: Drop>(read: Result<T, Code>) -> Result<Option<T>, AllocError>
+// Returns `None` for a refusal; only an allocation failure is an error.
+fn none_if_refused<T: Drop>(read: Result<T, Code>) -> Result<Option<T>, AllocError>
     ensures { IsNoneIfRefused read result }
 {
     match read {

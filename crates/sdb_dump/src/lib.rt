@@ -3,9 +3,9 @@
 
 mod check;
 mod checker;
-mod document;
 mod dump_line;
 pub mod laws;
+mod made_log;
 mod utf8_facts;
 mod version;
 mod write;

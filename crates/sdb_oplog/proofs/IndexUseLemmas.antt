@@ -39,23 +39,6 @@ there_at false f bs s o is found h = h
 pub entry_existed : (f g : VersionsBySource) (bs s : List ℕ) (w : Option VersionsBySeq) → ((cs : List ℕ) → g cs ≡ update bytes_eq f bs w cs) → is_some (f bs) ≡ true → is_some (g s) ≡ true → is_some (f s) ≡ true
 entry_existed f g bs s w h found there = there_at (bytes_eq bs s) f bs s w refl found (sym (ap is_some (h s)) ∙ there)
 
--- a source that was removed
-pub out_used : (f g : VersionsBySource) (bs : List ℕ) → ((cs : List ℕ) → g cs ≡ update bytes_eq f bs None cs) → SourceUsedIn g bs
-out_used f g bs h there =
-    let none : g bs ≡ None = h bs ∙ ap (λ b. cond b None (f bs)) ((bytes_eq-Decides bs bs).1 refl) in
-    let never : false ≡ true = sym (ap is_some none) ∙ there in
-    cc
-
 -- a source that is absent
 pub none_used : (f : VersionsBySource) (bs : List ℕ) → f bs ≡ None → SourceUsedIn f bs
 none_used f bs none there = let never : false ≡ true = sym (ap is_some none) ∙ there in cc
-
-first_number : (es : List (ℕ × ℕ)) → (es ≡ [] → ⊥) → (n : ℕ) × (is_some (lookup (nat_eq n) es) ≡ true)
-first_number [] some = absurd (some refl)
-first_number (e ∷ es) some = (e.0, ap (λ b. is_some (cond b (Some e.1) (lookup (nat_eq e.0) es))) (eq-eqb e.0 e.0 refl))
-
--- a source with some seq
-pub some_used : (f : VersionsBySource) (bs : List ℕ) (m : VersionsBySeq) → f bs ≡ Some m → (m.entries ≡ [] → ⊥) → SourceUsedIn f bs
-some_used f bs m found some there =
-    let one = first_number m.entries some in
-    (one.0, ap (λ o. is_some (option_and_then (λ k. get nat_eq k one.0) o)) found ∙ one.1)

@@ -4,4 +4,5 @@ pub mod LogGrowth
 pub mod VersionSearch
 pub mod IndexLemmas
 pub mod AppendLemmas
+pub mod DecidedLogLemmas
 pub mod NumberMapLemmas

@@ -1,5 +1,6 @@
 pub mod Coding
 pub mod Decide
+pub mod DecidedLog
 pub mod FaultCodes
 pub mod Keys
 pub mod LogInvariant

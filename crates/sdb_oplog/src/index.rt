@@ -58,20 +58,6 @@ impl Index {
         Ok(())
     }
 
-    // Removes the source if it has no seq.
-    pub(crate) fn remove_unused(&mut self, src: &str)
-        ensures equal { (s : List ℕ) (n : ℕ) → indexed_version self.new s n ≡ indexed_version self.old s n }
-        ensures unused { SourceHasEntries self.new src.now }
-        ensures has_entries { (s : List ℕ) → s ≢ src.now → SourceHasEntries self.old s → SourceHasEntries self.new s }
-    {
-        let Some(numbers) = self.by_source.get(src) else {
-            return;
-        };
-        if numbers.is_empty() {
-            drop(self.by_source.remove(src));
-        }
-    }
-
     // Inserts the version of one more seq of the source, for which space is reserved.
     pub(crate) fn insert(&mut self, src: &str, seq: u64, at: u64)
         requires { HasReserved self.old src.now }

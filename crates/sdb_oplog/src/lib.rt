@@ -3,6 +3,8 @@
 
 mod codes;
 mod content;
+mod decided_log;
+mod document;
 mod entry;
 mod equality;
 mod index;
@@ -13,9 +15,11 @@ mod path_interner;
 
 pub use codes::Code;
 pub use content::{Content, Kind, over, rebase};
+pub use decided_log::{DecidedLog, RebaseResult, Rejection};
+pub use document::clone_document;
 pub use entry::{Entry, Submission, clone_entries};
 pub use equality::entries_equal;
 pub use keys::Key;
-pub use log::{Log, ReserveError, ReservedAppend};
+pub use log::Log;
 pub use moment::Moment;
 pub use path_interner::PathInterner;

@@ -1,6 +1,7 @@
 //! The log of a document.
 ghost use Rattle.std.specs.Prelude.{◌≡◌, ◌<◌, ◌≤◌, ℕ, List, [], ◌∷◌, ◌++◌, length, vec_len, vec_capacity, bytes_eq, nat_eq, ◌&&◌, if◌then◌else◌, take, drop, slice_get, true, Some, None, OnOk, OnErr, IfOk, IfErr, option_map, is_some, unwrap_or, IsTrue, ◌↔◌, ◌≢◌};
 ghost use Rattle.sdb_value.specs.View.{value_of};
+ghost use Rattle.sdb_oplog.specs.Decide.{missed_entries};
 ghost use Rattle.sdb_oplog.specs.Snap.{snap, stored_at, are_identifiers_new};
 ghost use Rattle.sdb_oplog.specs.Moments.{last_moment, version_at, MomentsOrderedFrom};
 ghost use Rattle.sdb_oplog.specs.LogInvariant.{appended_entry};
@@ -51,7 +52,7 @@ impl Model for Log {
 
 /// A log and a submission for which space is reserved, so that appending it doesn't allocate.
 #[derive(Drop)]
-pub struct ReservedAppend {
+pub(crate) struct ReservedAppend {
     alloc: Global,
     entries: Vec<Entry>,
     index: Index,
@@ -78,7 +79,7 @@ impl Model for ReservedAppend {
 
 /// An unchanged log in which no space could be reserved, and the error.
 #[derive(Drop)]
-pub struct ReserveError {
+pub(crate) struct ReserveError {
     pub log: Log,
     pub error: AllocError,
 }
@@ -126,6 +127,15 @@ impl Log {
         ensures { result.now ≡ drop version self.now }
     {
         &self.entries.as_slice()[version as usize..]
+    }
+
+    /// Returns the entries stored since the submission's base version; none if that version is above
+    /// the length.
+    pub fn missed_entries(&self, submission: &Submission) -> &[Entry]
+        ensures { result.now ≡ missed_entries self.now submission.now }
+    {
+        let version = self.len();
+        self.entries_from(submission.version().unwrap_or(version).min(version))
     }
 
     /// Returns the version of the entry with this source and seq, from an index.
@@ -182,7 +192,10 @@ impl Log {
     /// # Errors
     ///
     /// [`ReserveError`] with the unchanged log if an allocation fails.
-    pub fn reserve_append(self, submission: Submission) -> Result<ReservedAppend, ReserveError>
+    pub(crate) fn reserve_append(
+        self,
+        submission: Submission,
+    ) -> Result<ReservedAppend, ReserveError>
         ensures ok { IfOk result (λ p. p ≡ record { log = self; submission = submission }) }
         ensures err { IfErr result (λ u. u.log ≡ self) }
     {
@@ -250,16 +263,9 @@ impl Log {
 }
 
 impl ReservedAppend {
-    /// Returns the submission.
-    pub fn submission(&self) -> &Submission
-        ensures { result.now ≡ self.now.submission }
-    {
-        &self.submission
-    }
-
     /// Appends the submission with this content, or with the submitted one if it is `None`. Its
     /// moment is `now`, or that of the entry before it if that is later.
-    pub fn commit(self, now: Moment, content: Option<Content>) -> Log
+    pub(crate) fn commit(self, now: Moment, content: Option<Content>) -> Log
         requires first { stored_at self.submission.src self.submission.seq self.log ≡ None }
         requires alive { is_some (snap (self.log ++ appended_entry self now content ∷ [])) ≡ true }
         requires bound { length self.log < MAX }
@@ -275,24 +281,6 @@ impl ReservedAppend {
         let moment = now.max(last_moment(entries.as_slice()));
         let entry = Entry::new(version, moment, content, submission);
         append(&mut entries, &mut index, entry);
-        Log {
-            alloc,
-            entries,
-            index,
-        }
-    }
-
-    /// Returns the log unchanged. A source without an entry is removed from the index.
-    pub fn cancel(self) -> Log
-        ensures { result ≡ self.log }
-    {
-        let ReservedAppend {
-            alloc,
-            entries,
-            mut index,
-            submission,
-        } = self;
-        index.remove_unused(submission.src());
         Log {
             alloc,
             entries,

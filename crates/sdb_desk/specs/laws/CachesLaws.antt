@@ -1,5 +1,5 @@
 -- Laws of caches: each cached snapshot stays one of its log.
-use Rattle.std.proofs.Common.{◌≡◌, ℕ, ◌<◌, ◌≤◌, List, [], ◌++◌, length, take, Bool, true, false, cond, Option, Some, None, unwrap_or, inl, inr, refl, sym, ap, subst, arith}
+use Rattle.std.proofs.Common.{◌≡◌, ℕ, ◌≤◌, List, [], ◌++◌, length, take, Bool, true, false, cond, Option, Some, None, unwrap_or, inl, inr, refl, sym, ap, subst, arith}
 use Rattle.sdb_value.specs.Value.{Value}
 use Rattle.sdb_oplog.specs.Plain.{PlainEntry}
 use Rattle.sdb_oplog.specs.Keys.{PlainKey, Logs, keys_equal}

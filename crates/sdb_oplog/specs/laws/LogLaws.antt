@@ -66,7 +66,7 @@ snap_one [] e d m h =
     let s : d ≡ m = cc in and_then_some (result_ok (apply_content e.content d)) ∙ ap (λ n. result_ok (apply_content e.content n)) s
 snap_one (x ∷ es) e d m h = snap_step (result_ok (apply_content x.content d)) es e m h (λ n k. snap_one es e n m k)
 
-some_of_is_some : (o : Option (Option Value)) → is_some o ≡ true → o ≡ Some (unwrap_or o None)
+pub some_of_is_some : (o : Option (Option Value)) → is_some o ≡ true → o ≡ Some (unwrap_or o None)
 some_of_is_some None h = cc
 some_of_is_some (Some d) h = refl
 
@@ -159,7 +159,7 @@ decides_stored log s now m d first room seen e is =
 
 -- ---- made logs
 
-append_nil : (es : List PlainEntry) → es ++ [] ≡ es
+pub append_nil : (es : List PlainEntry) → es ++ [] ≡ es
 append_nil [] = refl
 append_nil (e ∷ es) = ap (λ l. e ∷ l) (append_nil es)
 
@@ -226,7 +226,7 @@ pub moments_ordered_append : (m : ℕ) (es : List PlainEntry) (e : PlainEntry) �
 moments_ordered_append m [] e h k = (k, tt)
 moments_ordered_append m (x ∷ es) e h k = (h.0, moments_ordered_append x.moment es e h.1 k)
 
-append_changes : (es : List PlainEntry) (e : PlainEntry) → es ≡ es ++ e ∷ [] → ⊥
+pub append_changes : (es : List PlainEntry) (e : PlainEntry) → es ≡ es ++ e ∷ [] → ⊥
 append_changes es e h = let n : length es ≡ length es + 1 = ap length h ∙ length-append es (e ∷ []) in omega (arith, n)
 
 append_decided_moments_ordered : (log : List PlainEntry) (e : PlainEntry) (r : Result PlainContent Code)

@@ -1,5 +1,5 @@
 use Rattle.sdb_dump.proofs.ReadBackData.{read_compact}
-use Rattle.sdb_dump.proofs.PrintLemmas.{utf8_compact}
+use Rattle.sdb_dump.proofs.CompactText.{utf8_compact}
 use Rattle.sdb_dump.proofs.laws.printed_reads_back.Goals as goal
 
 pub returns-clause-read : goal.returns-clause-read

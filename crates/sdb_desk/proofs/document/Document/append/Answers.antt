@@ -1,6 +1,9 @@
-use Rattle.sdb_desk.proofs.CacheLemmas.{decided_document}
+use Rattle.std.proofs.Common.{length}
+use Rattle.sdb_oplog.specs.Decide.{stored, missed_entries}
+use Rattle.sdb_desk.proofs.CacheLemmas.{document_after_append}
 use Rattle.sdb_desk.proofs.document.Document.append.Goals as goal
 
 pub invariant_of-self : goal.invariant_of-self
 invariant_of-self c =
-    decided_document c.self.inside.log c.append_entry.new.log c.args.submission c.args.now c.self.inside.current c.append_entry.new.present c.self.inside.cache c.append_entry.result c.append_entry.ensures.log c.append_entry.ensures.unchanged_on_err c.append_entry.ensures.document c.self.invariant
+    let log = c.self.inside.decided in
+    document_after_append log c.append.new.self c.args.submission c.args.now c.self.inside.cache (stored (length log) (missed_entries log c.args.submission)) c.append.result c.append.ensures.ok c.append.ensures.err c.self.invariant

@@ -10,8 +10,8 @@ returns-clause-replay_base c =
     let log = c.args.self.now.log in
     let v = c.args.version in
     let w = c.in_ok-from.from in
-    let lives : is_some (snap log) ≡ true = ap (λ d. is_some (snap d.log)) (sym c.self.view_is) ∙ c.len.ensures.alive in
+    let lives : is_some (snap log) ≡ true = ap (λ l. is_some (snap l)) (sym c.log.ensures.log) ∙ c.len.ensures.alive in
     let behind : c.entries_from.result.now ≡ drop w log =
-    c.entries_from.ensures ∙ ap (λ d. drop w d.log) c.self-2.view_is ∙ ap (drop w) c.nearest.ensures.log in
+    c.entries_from.ensures ∙ ap (drop w) (c.log-2.ensures.log ∙ c.nearest.ensures.log) in
     replays_from log v w (option_map value_of c.in_ok-from.snapshot) c.in_ok-entries.entries.items lives c.requires c.in_ok-from.ensures.bound
     c.in_ok-from.ensures.snap (c.in_ok-entries.ensures.copies ∙ ap (take (v - w)) behind)
