@@ -1,20 +1,14 @@
 -- One batch of a listing, from the desk's answer.
-use Rattle.std.proofs.Common.{◌≡◌, ℕ, ◌+◌, ◌≤◌, List, [], ◌∷◌, Option, Some, None, Result, Ok, Err, OnErr, IfOk, Vec, refl, subst, inr}
+use Rattle.std.proofs.Common.{◌≡◌, ℕ, ◌+◌, [], ◌∷◌, Some, None, Result, Ok, Err, IfOk, Vec, refl, subst}
 use Rattle.std.specs.declared.alloc.AllocError.{AllocError}
 use Rattle.std.specs.declared.alloc.Global.{Global}
 use Rattle.sdb_oplog.specs.Plain.{PlainEntry}
 use Rattle.sdb_oplog.specs.Keys.{PlainKey}
-use Rattle.sdb_submit.specs.Calls.{ops_between, take_next, copied_entries_view}
-use Rattle.sdb_submit.specs.SubmitLoop.{CallRelation, ReadsBatches, TakesBatches, taken_or_empty}
-use Rattle.sdb_session.specs.Listing.{ReadsFrom, FailsToRead}
+use Rattle.sdb_submit.specs.Calls.{ops_between, copied_entries_view}
+use Rattle.sdb_submit.specs.SubmitLoop.{CallRelation, ReadsBatches, TakesBatches}
+use Rattle.sdb_session.specs.Listing.{ReadsFrom}
 use Rattle.sdb_session.specs.PumpModel.{TakeCall}
 use Rattle.sdb_session.specs.View.{taken_entries_view}
-
--- only an allocation failure returns `None`
-came_none : (a : Option (Option (List PlainEntry))) → taken_or_empty a ≡ None → a ≡ None
-came_none None is = refl
-came_none (Some (Some es)) is = cc
-came_none (Some None) is = cc
 
 module _ {P : Type 0} (acts : PlainKey → CallRelation P) (b : PlainKey) (v end size : ℕ) (p q : P) (r : Result (Vec PlainEntry Global) AllocError) where
   -- entries are read from the log
@@ -27,12 +21,6 @@ module _ {P : Type 0} (acts : PlainKey → CallRelation P) (b : PlainKey) (v end
     by_result (Ok es) h = (q, (subst (λ n. acts b (ops_between v n) p (Some es.items) q) e h, refl))
     by_result (Err x) h = tt
 
-  pub log_unread : (w : ℕ) → w ≤ end → acts b (ops_between v w) p (copied_entries_view r) q → OnErr r (FailsToRead acts None b v end p q)
-  log_unread w few h = by_result r h where
-    by_result : (r : Result (Vec PlainEntry Global) AllocError) → acts b (ops_between v w) p (copied_entries_view r) q → OnErr r (FailsToRead acts None b v end p q)
-    by_result (Ok es) h = tt
-    by_result (Err x) h = (w, (h, few))
-
   -- entries are taken from a queue
   pub queue_read : (id : ℕ) → TakeCall acts size (record { base = b; id = id }) p (taken_entries_view r) q
       → IfOk r (λ entries. ReadsFrom acts (Some id) b v (record { size = size; entries = entries.items } ∷ []) p q)
@@ -42,9 +30,3 @@ module _ {P : Type 0} (acts : PlainKey → CallRelation P) (b : PlainKey) (v end
         → IfOk r (λ entries. ReadsFrom acts (Some id) b v (record { size = size; entries = entries.items } ∷ []) p q)
     by_result (Ok es) (a, (h, is)) = (a, (q, (h, is, refl)))
     by_result (Err x) h = tt
-
-  pub queue_unread : (id : ℕ) → TakeCall acts size (record { base = b; id = id }) p (taken_entries_view r) q → OnErr r (FailsToRead acts (Some id) b v end p q)
-  queue_unread id h = by_result r h where
-    by_result : (r : Result (Vec PlainEntry Global) AllocError) → TakeCall acts size (record { base = b; id = id }) p (taken_entries_view r) q → OnErr r (FailsToRead acts (Some id) b v end p q)
-    by_result (Ok es) h = tt
-    by_result (Err x) (a, (h, is)) = inr (size, subst (λ c. acts b (take_next id size) p c q) (came_none a is) h)

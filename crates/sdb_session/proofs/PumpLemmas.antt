@@ -17,6 +17,15 @@ module _ {P : Type 0} (acts : PlainKey → CallRelation P) (max : ℕ) where
   takes_more [] x p m q h one = let T : P → Type 0 = λ y. TakeCall acts max x.sub.queue y (Some x.entries) q in (q, (subst T h one, refl))
   takes_more (y ∷ xs) x p m q h one = (h.0, (h.1.0, takes_more xs x h.0 m q h.1.1 one))
 
+  -- the queues of the first subscriptions were read, and these are left
+  pub record PumpedSoFar (t : List PlainProjection) (by : ℕ) (s : PlainSession) (p : P) (count : ℕ) (left : List PlainSubscription)
+      (says : List PlainAnswer → Type 0) (q : P) : Type 0 where
+    pub takes : List PlainTake
+    pub subs_are : map (λ x. x.sub) takes ++ left ≡ s.subs
+    pub calls : TakeCalls acts max takes p q
+    pub count_is : count ≡ pump_count takes
+    pub said : says (pump_answers t by s.source takes)
+
   pub takes_none : (p : P) → TakeCalls acts max [] p p
   unfolding TakeCalls
   takes_none p = refl
@@ -59,7 +68,7 @@ taken_sub f ts t x left rest all is of before =
 
 -- no queue was read
 pub stops_at_once : {P : Type 0} (acts : PlainKey → CallRelation P) (max : ℕ) (s : PlainSession) (p : P) → PumpInterrupted acts max s p p
-stops_at_once acts max s p = ([], (s.subs, (p, (refl, takes_none acts max p, inl refl))))
+stops_at_once acts max s p = record { takes = []; subs_left = s.subs; between = p; subs_are = refl; calls = takes_none acts max p; last = inl refl }
 
 pub on_err_any : {A E Q : Type 0} (r : Result A E) → Q → OnErr r Q
 on_err_any (Ok x) q = tt

@@ -2,7 +2,10 @@ pub mod Listing
 pub mod ListingView
 pub mod ProgressView
 pub mod Dialogue
+pub mod Documents
+pub mod Handlers
 pub mod Responses
+pub mod PassModel
 pub mod ProjectionModel
 pub mod PumpModel
 pub mod Sessions

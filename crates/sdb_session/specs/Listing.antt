@@ -54,16 +54,24 @@ module _ {P : Type 0} (acts : PlainKey → CallRelation P) where
   ReplacesQueue (Some i) k b s p new q =
       CloseCalls acts (queue_of k s.subs) p q × (new ≡ with_subscription s k (record { base = b; id = i }))
 
+  -- the listing of a log is opened
+  pub record LogListingOpens (b k : PlainKey) (v : ℕ) (p : P) (l : PlainListing) (q : P) : Type 0 where
+    pub end : ℕ
+    pub reads : acts b current_version p end q
+    pub within : v ≤ end
+    pub listing_is : l ≡ record { key = k; base = b; next = v; end = end; queue = None }
+
+  -- the listing of the first entries of a new queue is opened
+  pub record QueueListingOpens (s : PlainSession) (b k : PlainKey) (v : ℕ) (p : P) (l : PlainListing) (q : P) : Type 0 where
+    pub opened : PlainSubscribeResult
+    pub not_full : is_subscription_full k s.subs ≡ false
+    pub opens : acts b (subscribe_call (Some v)) p (Ok opened) q
+    pub listing_is : l ≡ record { key = k; base = b; next = v; end = opened.version; queue = Some opened.id }
+
   -- a listing without written entries is opened for a request
   abbrev pub ListingOpens : List PlainProjection → PlainSession → PlainRequest → P → PlainListing → P → Type 0
-  ListingOpens t s (fetch k (Some v)) p l q =
-      (end : ℕ)
-      × (acts (base_key t k) current_version p end q × (v ≤ end)
-      × (l ≡ record { key = k; base = base_key t k; next = v; end = end; queue = None }))
-  ListingOpens t s (subscribe k (Some v)) p l q =
-      (o : PlainSubscribeResult)
-      × ((is_subscription_full k s.subs ≡ false) × acts (base_key t k) (subscribe_call (Some v)) p (Ok o) q
-      × (l ≡ record { key = k; base = base_key t k; next = v; end = o.version; queue = Some o.id }))
+  ListingOpens t s (fetch k (Some v)) p l q = LogListingOpens (base_key t k) k v p l q
+  ListingOpens t s (subscribe k (Some v)) p l q = QueueListingOpens s (base_key t k) k v p l q
   ListingOpens t s r p l q = ⊥
 
   -- some entries are read and written, and others are left

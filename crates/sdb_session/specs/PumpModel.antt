@@ -44,17 +44,22 @@ module _ {P : Type 0} (acts : PlainKey → CallRelation P) (max : ℕ) where
   TakeCalls (x ∷ xs) p q = (m : P) × (TakeCall x.sub.queue p (Some x.entries) m × TakeCalls xs m q)
 
   -- each queue is read, in the order of the subscriptions, and the answers for its entries are written
-  abbrev pub PumpRelation : List PlainProjection → ℕ → PlainSession → P → ℕ → (List PlainAnswer → Type 0) → P → Type 0
-  PumpRelation t by s p count says q =
-      (xs : List PlainTake)
-      × ((map (λ x. x.sub) xs ≡ s.subs) × TakeCalls xs p q × (count ≡ pump_count xs) × says (pump_answers t by s.source xs))
+  pub record PumpRelation (t : List PlainProjection) (by : ℕ) (s : PlainSession) (p : P) (count : ℕ)
+      (says : List PlainAnswer → Type 0) (q : P) : Type 0 where
+    pub takes : List PlainTake
+    pub subs_are : map (λ x. x.sub) takes ≡ s.subs
+    pub calls : TakeCalls takes p q
+    pub count_is : count ≡ pump_count takes
+    pub said : says (pump_answers t by s.source takes)
 
   -- some of the queues were read, in order, and perhaps one more read was made
-  abbrev pub PumpInterrupted : PlainSession → P → P → Type 0
-  PumpInterrupted s p q =
-      (xs : List PlainTake)
-      × ((more : List PlainSubscription) × ((m : P) × ((map (λ x. x.sub) xs ++ more ≡ s.subs) × TakeCalls xs p m
-      × ((q ≡ m) ⊎ ((x : QueueId) × ((o : Option (List PlainEntry)) × TakeCall x m o q))))))
+  pub record PumpInterrupted (s : PlainSession) (p q : P) : Type 0 where
+    pub takes : List PlainTake
+    pub subs_left : List PlainSubscription
+    pub between : P
+    pub subs_are : map (λ x. x.sub) takes ++ subs_left ≡ s.subs
+    pub calls : TakeCalls takes p between
+    pub last : (q ≡ between) ⊎ ((x : QueueId) × ((o : Option (List PlainEntry)) × TakeCall x between o q))
 
 module _ {P : Type 0} (acts : PlainKey → CallRelation P) where
   -- each queue is closed, in order

@@ -60,10 +60,16 @@ module _ {P : Type 0} (acts : CallRelation P) where
   SubmitCalls true s now p r q = SubmitRelation acts s now p r q
   SubmitCalls false s now p r q = (r ≡ refused E9) × (q ≡ p)
 
+  -- a full session refuses a new key after reading the current version
+  pub record RefusesVersion (v : ℕ) (p : P) (r : Result PlainSubscribeReply Code) (q : P) : Type 0 where
+    pub last : ℕ
+    pub reads : acts current_version p last q
+    pub is_refused : r ≡ Err (limit_code v last)
+
   -- the refusal of a new key by a full session
   abbrev pub RefuseCalls : Option ℕ → P → Result PlainSubscribeReply Code → P → Type 0
   RefuseCalls None p r q = (r ≡ Err E11) × (q ≡ p)
-  RefuseCalls (Some v) p r q = (last : ℕ) × (acts current_version p last q × (r ≡ Err (limit_code v last)))
+  RefuseCalls (Some v) p r q = RefusesVersion v p r q
 
 module _ {P : Type 0} (acts : PlainKey → CallRelation P) where
   -- the given queue, if any, is closed
@@ -71,39 +77,57 @@ module _ {P : Type 0} (acts : PlainKey → CallRelation P) where
   CloseCalls None p q = q ≡ p
   CloseCalls (Some s) p q = acts s.base (unsubscribe_call s.id) p tt q
 
-  -- the first entries of a new queue are read in batches; `None` means that an allocation failed for the first batch
-  -- or, before it, for the subscription
-  abbrev pub FirstTakeCalls : PlainKey → Option ℕ → PlainSubscribeResult → P → Option (List PlainEntry) → P → Type 0
-  FirstTakeCalls b v o p (Some es) q =
-      (xs : List PlainBatch)
-      × (TakesBatches (acts b) o.id xs p q × (total_size xs ≡ first_batch_len v o.version) × (es ≡ entries_of xs))
-  FirstTakeCalls b v o p None q = (q ≡ p) ⊎ ((n : ℕ) × acts b (take_next o.id n) p None q)
+  -- the first entries of a new queue are read in batches
+  pub record TakesFirst (b : PlainKey) (v : Option ℕ) (o : PlainSubscribeResult) (p : P) (es : List PlainEntry) (q : P)
+      : Type 0 where
+    pub batches : List PlainBatch
+    pub takes : TakesBatches (acts b) o.id batches p q
+    pub all : total_size batches ≡ first_batch_len v o.version
+    pub entries_are : es ≡ entries_of batches
+
+  -- an allocation fails for the first batch or, before it, for the subscription
+  abbrev pub FailsToTake : PlainKey → PlainSubscribeResult → P → P → Type 0
+  FailsToTake b o p q = (q ≡ p) ⊎ ((n : ℕ) × acts b (take_next o.id n) p None q)
 
   -- a queue was opened, some of its first entries were read, and it was closed again
-  abbrev pub SubscribeInterrupted : PlainKey → Option ℕ → P → P → Type 0
-  SubscribeInterrupted b v p q =
-      (o : PlainSubscribeResult)
-      × ((m : P) × ((n : P) × (acts b (subscribe_call v) p (Ok o) m × TakesBatchPrefix (acts b) o.id m n
-      × acts b (unsubscribe_call o.id) n tt q)))
+  pub record SubscribeInterrupted (b : PlainKey) (v : Option ℕ) (p q : P) : Type 0 where
+    pub opened : PlainSubscribeResult
+    pub after_open : P
+    pub after_takes : P
+    pub opens : acts b (subscribe_call v) p (Ok opened) after_open
+    pub takes : TakesBatchPrefix (acts b) opened.id after_open after_takes
+    pub closes : acts b (unsubscribe_call opened.id) after_takes tt q
+
+  -- a queue is opened, and closed again after an allocation failure
+  pub record OpensAndCloses (b : PlainKey) (v : Option ℕ) (p : P) (fails : PlainSubscribeResult → P → P → Type 0)
+      (code : Code) (q : P) : Type 0 where
+    pub opened : PlainSubscribeResult
+    pub after_open : P
+    pub after_failure : P
+    pub opens : acts b (subscribe_call v) p (Ok opened) after_open
+    pub fails_after : fails opened after_open after_failure
+    pub closes : acts b (unsubscribe_call opened.id) after_failure tt q
+    pub is_memory : code ≡ E10
 
   -- a queue is opened; if the allocation for its subscription fails, it is closed again
   abbrev pub OpenCalls : PlainKey → Option ℕ → P → Result PlainSubscribeResult Code → P → Type 0
   OpenCalls b v p (Ok o) q = acts b (subscribe_call v) p (Ok o) q
-  OpenCalls b v p (Err code) q =
-      acts b (subscribe_call v) p (Err code) q
-      ⊎ ((o : PlainSubscribeResult) × ((m : P) × (acts b (subscribe_call v) p (Ok o) m × acts b (unsubscribe_call o.id) m tt q
-      × (code ≡ E10))))
+  OpenCalls b v p (Err code) q = acts b (subscribe_call v) p (Err code) q ⊎ OpensAndCloses b v p (λ o m n. n ≡ m) code q
 
-  -- a queue is opened, its first entries are read, and the old queue is closed; if an allocation fails, the new queue
-  -- is closed again
+  -- a queue is opened, its first entries are read, and the old queue is closed
+  pub record OpensAndTakes (b : PlainKey) (v : Option ℕ) (old : Option QueueId) (p : P) (j : PlainSubscribeReply) (q : P)
+      : Type 0 where
+    pub after_open : P
+    pub after_takes : P
+    pub opens : acts b (subscribe_call v) p (Ok j.opened) after_open
+    pub takes : TakesFirst b v j.opened after_open j.first after_takes
+    pub closes : CloseCalls old after_takes q
+
+  -- a queue is opened and its first entries are read; if an allocation fails, the new queue is closed again
   abbrev pub OpenAndTakeCalls : PlainKey → Option ℕ → Option QueueId → P → Result PlainSubscribeReply Code → P → Type 0
-  OpenAndTakeCalls b v old p (Ok j) q =
-      (m : P) × ((n : P) × (acts b (subscribe_call v) p (Ok j.opened) m
-      × FirstTakeCalls b v j.opened m (Some j.first) n × CloseCalls old n q))
+  OpenAndTakeCalls b v old p (Ok j) q = OpensAndTakes b v old p j q
   OpenAndTakeCalls b v old p (Err code) q =
-      acts b (subscribe_call v) p (Err code) q
-      ⊎ ((o : PlainSubscribeResult) × ((m : P) × ((n : P) × (acts b (subscribe_call v) p (Ok o) m
-      × FirstTakeCalls b v o m None n × acts b (unsubscribe_call o.id) n tt q × (code ≡ E10)))))
+      acts b (subscribe_call v) p (Err code) q ⊎ OpensAndCloses b v p (FailsToTake b) code q
 
   abbrev pub SubscribeCalls : Bool → PlainKey → Option ℕ → Option QueueId → P → Result PlainSubscribeReply Code → P → Type 0
   SubscribeCalls true b v old p r q = RefuseCalls (acts b) v p r q
@@ -183,12 +207,12 @@ response_of e t s (unsubscribe k) r = record { answers = unsubscribed k ∷ []; 
 
 -- ---- one message at a moment: the desk gives a reply, and the session's response follows from it
 module _ {P : Type 0} (acts : PlainKey → CallRelation P) where
-  abbrev pub RequestOutcome : PlainEcho → List PlainProjection → ℕ → ℕ → PlainSession → PlainRequest → P
-      → (List PlainAnswer → Type 0) → PlainSession → P → Type 0
-  RequestOutcome e t by now s r p says new q =
-      (reply : RequestResult r)
-      × (RequestCalls acts t by now s r p reply q × (new ≡ (response_of e t s r reply).session)
-      × says (response_of e t s r reply).answers)
+  pub record RequestOutcome (e : PlainEcho) (t : List PlainProjection) (by now : ℕ) (s : PlainSession) (r : PlainRequest) (p : P)
+      (says : List PlainAnswer → Type 0) (new : PlainSession) (q : P) : Type 0 where
+    pub reply : RequestResult r
+    pub calls : RequestCalls acts t by now s r p reply q
+    pub session_is : new ≡ (response_of e t s r reply).session
+    pub said : says (response_of e t s r reply).answers
 
   -- a message without a request is refused, and nothing changes
   abbrev pub MessageOutcome : PlainEcho → Result PlainRequest Code → List PlainProjection → ℕ → ℕ → PlainSession → P

@@ -2,22 +2,22 @@
 ghost use Rattle.std.specs.Prelude.{◌≡◌, ◌∷◌, [], ◌++◌, map, OnOk, option_map, Ok, Err, None};
 ghost use Rattle.sdb_desk.specs.ReplyView.{plain_reply};
 ghost use Rattle.sdb_oplog.specs.Keys.{plain_key};
-ghost use Rattle.sdb_session.specs.ProjectionModel.{projected_entry};
+ghost use Rattle.sdb_session.specs.ProjectionModel.{projected_entry, projected_value};
 ghost use Rattle.sdb_session.specs.Output.{answer_items};
 ghost use Rattle.sdb_session.specs.View.{plain_opened, plain_projection_option, echo_of_message, WroteAnswers};
 ghost use Rattle.sdb_session.specs.Responses.{entry_answers, submit_answers, subscribe_answers, PlainSubscribeReply};
 ghost use Rattle.sdb_value.specs.View.{value_of};
 ghost use Rattle.sdb_wire.specs.Answers.{op_message, failed, subscribed};
-ghost use Rattle.sdb_wire.specs.View.{plain_answer};
+ghost use Rattle.sdb_wire.specs.View.{document_answer, plain_answer};
 
 use crate::answer_sink::AnswerSink;
 use crate::projection::{DocumentRef, projected_content, projected_document};
-use sdb_desk::{Reply, SubscribeResult};
+use sdb_desk::{FetchResult, Reply, SubscribeResult};
 use sdb_json::JsonTree;
 use sdb_oplog::{Code, Entry, Key, Submission};
 use sdb_projection::Projection;
 use sdb_value::Json;
-use sdb_wire::{Answer, echo_of};
+use sdb_wire::{Answer, DocumentRequest, echo_of};
 use std::alloc::{AllocError, Global};
 
 // Writes one answer.
@@ -139,6 +139,28 @@ pub(crate) fn write_reply<O: AnswerSink>(
         }
         Reply::Refused(code) => write_refusal(alloc, message, *code, out),
     }
+}
+
+// Writes a document, as the answer to its request.
+pub(crate) fn write_document<O: AnswerSink>(
+    alloc: Global,
+    projection: Option<&Projection>,
+    request: DocumentRequest<'_>,
+    found: FetchResult,
+    out: &mut O,
+) -> Result<(), AllocError>
+    ensures { OnOk result (WroteAnswers O.items (O.contents out.old) (O.contents out.new)
+        (document_answer request.entry found.version (option_map
+        (projected_value (plain_projection_option projection.entry)) (option_map value_of found.snapshot)) ∷ [])) }
+{
+    let seen = projected_document(alloc, projection, found.snapshot)?;
+    let document = seen.as_ref();
+    let answer = Answer::Document {
+        request,
+        version: found.version,
+        document,
+    };
+    write_answer(alloc, &answer, out)
 }
 
 // Writes the document, as the answer to a subscribe request without a version.

@@ -3,13 +3,16 @@
 
 mod answer_sink;
 mod answers;
+mod context;
 mod dispatch;
+mod documents;
 mod interner;
 mod list_request;
 mod listing;
 mod projection;
 mod pump;
 mod session;
+mod submit_request;
 mod subscribe_request;
 mod subscriptions;
 

@@ -4,6 +4,8 @@ ghost use Rattle.std.specs.Option.{is_some};
 ghost use Rattle.std.specs.Result.{is_err};
 ghost use Rattle.indexmap.specs.IndexMap.{spare};
 ghost use Rattle.sdb_oplog.specs.Keys.{plain_key};
+ghost use Rattle.sdb_session.specs.PassModel.{IsNextPass};
+ghost use Rattle.sdb_session.specs.Handlers.{RequestHandled};
 ghost use Rattle.sdb_session.specs.Listing.{ListingOpens, ListingPart, ReplacesQueue, RequestPart, end_answer, entries_left};
 ghost use Rattle.sdb_session.specs.ListingView.{plain_listing, listing_result, PartOrFault};
 ghost use Rattle.sdb_session.specs.View.{plain_session, echo_of_message, has_ended, WroteAnswers};
@@ -11,11 +13,12 @@ ghost use Rattle.sdb_wire.specs.Wire.{PlainRequest, fetch};
 
 use crate::answer_sink::AnswerSink;
 use crate::answers::{write_answer, write_refusal};
+use crate::context::Context;
+use crate::dispatch::without_listing;
 use crate::listing::{BatchFault, Listing};
 use crate::projection::base_key;
 use crate::session::{Ended, Session};
 use crate::subscriptions::Subscription;
-use sdb_json::JsonTree;
 use sdb_oplog::{Code, Key};
 use sdb_projection::Table;
 use sdb_submit::Desk;
@@ -26,28 +29,25 @@ impl Session {
     // Begins to write the entries from a version on, up to the current version.
     pub(crate) fn fetch_operations<D: Desk, O: AnswerSink>(
         &mut self,
-        desk: &D,
+        context: &Context<'_, '_, '_, D>,
         pass: &mut D::Pass,
-        table: &Table,
-        message: Option<&JsonTree<'_>>,
         key: Key,
         from: u64,
         out: &mut O,
     ) -> Result<Option<Listing>, AllocError>
-        requires accepted { D.accepts desk.now pass.old }
-        ensures accepted { D.accepts desk.now pass.new }
-        ensures number_unchanged { D.pass_number desk.now pass.new ≡ D.pass_number desk.now pass.old }
-        ensures outcome { (t : ℕ) → RequestPart (D.step desk.now) (echo_of_message message.entry) table.now
-            (D.pass_number desk.now pass.old) t (plain_session self.old) (fetch (plain_key key) (Some from)) pass.old
-            (listing_result result) (WroteAnswers O.items (O.contents out.old) (O.contents out.new))
+        requires accepted { D.accepts context.now.desk.now pass.old }
+        ensures pass { IsNextPass D.accepts D.pass_number context.now.desk.now pass.old pass.new }
+        ensures outcome { RequestHandled D.step D.pass_number context.now (plain_session self.old)
+            (fetch (plain_key key) (Some from)) pass.old (listing_result result)
+            (WroteAnswers O.items (O.contents out.old) (O.contents out.new))
             (plain_session self.new) pass.new }
         ensures ended_unchanged { self.new.ended ≡ self.old.ended }
     {
-        let base = base_key(table.find(key.collection.as_str()), &key)?;
-        let present = desk.version(pass, &base);
+        let base = base_key(context.table.find(key.collection.as_str()), &key)?;
+        let present = context.desk.version(pass, &base);
         if present < from {
-            write_refusal(self.alloc, message, Code::E4, out)?;
-            return Ok(None);
+            let refused = write_refusal(context.alloc, context.message, Code::E4, out);
+            return without_listing(refused);
         }
         let listing = Listing {
             key,
@@ -56,35 +56,34 @@ impl Session {
             end: present,
             queue: None,
         };
-        self.begin_listing(desk, pass, table, message, listing, out)
+        self.begin_listing(context, pass, listing, out)
     }
 
     // Writes the first entries of a listing. If an allocation fails before that, the message is
     // refused.
     pub(crate) fn begin_listing<D: Desk, O: AnswerSink>(
         &mut self,
-        desk: &D,
+        context: &Context<'_, '_, '_, D>,
         pass: &mut D::Pass,
-        table: &Table,
-        message: Option<&JsonTree<'_>>,
         listing: Listing,
         out: &mut O,
     ) -> Result<Option<Listing>, AllocError>
-        requires accepted { D.accepts desk.now pass.old }
-        ensures accepted { D.accepts desk.now pass.new }
-        ensures number_unchanged { D.pass_number desk.now pass.new ≡ D.pass_number desk.now pass.old }
-        ensures outcome { (r : PlainRequest) (p : D.Pass) (by t : ℕ)
-            → ListingOpens (D.step desk.now) table.now (plain_session self.old) r p (plain_listing listing) pass.old
-            → RequestPart (D.step desk.now) (echo_of_message message.entry) table.now by t (plain_session self.old)
-            r p (listing_result result) (WroteAnswers O.items (O.contents out.old) (O.contents out.new))
+        requires accepted { D.accepts context.now.desk.now pass.old }
+        ensures pass { IsNextPass D.accepts D.pass_number context.now.desk.now pass.old pass.new }
+        ensures outcome { (r : PlainRequest) (p : D.Pass) (by : ℕ)
+            → ListingOpens (D.step context.now.desk.now) context.now.table.now (plain_session self.old) r p
+            (plain_listing listing) pass.old
+            → RequestPart (D.step context.now.desk.now) (echo_of_message context.now.message)
+            context.now.table.now by context.now.moment (plain_session self.old) r p (listing_result result)
+            (WroteAnswers O.items (O.contents out.old) (O.contents out.new))
             (plain_session self.new) pass.new }
         ensures ended_unchanged { self.new.ended ≡ self.old.ended }
     {
-        match self.continue_listing(desk, pass, table, listing, out) {
+        match self.continue_listing(context.desk, pass, context.table, listing, out) {
             Ok(rest) => Ok(rest),
             Err(BatchFault::NotRead { .. }) => {
-                write_refusal(self.alloc, message, Code::E10, out)?;
-                Ok(None)
+                let refused = write_refusal(context.alloc, context.message, Code::E10, out);
+                without_listing(refused)
             }
             Err(BatchFault::NotWritten { error }) => Err(error),
         }
@@ -101,8 +100,7 @@ impl Session {
         out: &mut O,
     ) -> Result<Option<Listing>, BatchFault>
         requires accepted { D.accepts desk.now pass.old }
-        ensures accepted { D.accepts desk.now pass.new }
-        ensures number_unchanged { D.pass_number desk.now pass.new ≡ D.pass_number desk.now pass.old }
+        ensures pass { IsNextPass D.accepts D.pass_number desk.now pass.old pass.new }
         ensures outcome { PartOrFault (D.step desk.now) table.now (plain_listing listing)
             (plain_session self.old) pass.old result (WroteAnswers O.items (O.contents out.old) (O.contents out.new))
             (plain_session self.new) pass.new }
@@ -151,8 +149,7 @@ impl Session {
     ) -> Result<(), AllocError>
         requires accepted { D.accepts desk.now pass.old }
         requires capacity { is_some (plain_listing listing).queue ≡ true → 0 < spare self.old.subscriptions }
-        ensures accepted { D.accepts desk.now pass.new }
-        ensures number_unchanged { D.pass_number desk.now pass.new ≡ D.pass_number desk.now pass.old }
+        ensures pass { IsNextPass D.accepts D.pass_number desk.now pass.old pass.new }
         ensures replaces { ReplacesQueue (D.step desk.now) (plain_listing listing).queue (plain_listing listing).key
             (plain_listing listing).base (plain_session self.old) pass.old (plain_session self.new) pass.new }
         ensures output { OnOk result (WroteAnswers O.items (O.contents out.old) (O.contents out.new)

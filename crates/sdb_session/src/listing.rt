@@ -1,5 +1,6 @@
 //! Listings: the entries of a log from a version on, or the first ones of a new queue, in batches.
 ghost use Rattle.std.specs.Prelude.{◌≡◌, ◌+◌, ◌<◌, ◌≤◌, [], ◌∷◌, IfOk, OnErr};
+ghost use Rattle.sdb_session.specs.PassModel.{IsNextPass};
 ghost use Rattle.sdb_session.specs.Listing.{ReadsFrom, FailsToRead, ClosesNewQueue, entries_left};
 ghost use Rattle.sdb_session.specs.ListingView.{plain_listing, BatchOutcome};
 ghost use Rattle.sdb_session.specs.View.{plain_projection_option, WroteAnswers};
@@ -94,8 +95,7 @@ impl Listing {
         requires accepted { D.accepts desk.now pass.old }
         requires some { 0 < size }
         requires few { size ≤ entries_left (plain_listing self.now) }
-        ensures accepted { D.accepts desk.now pass.new }
-        ensures number_unchanged { D.pass_number desk.now pass.new ≡ D.pass_number desk.now pass.old }
+        ensures pass { IsNextPass D.accepts D.pass_number desk.now pass.old pass.new }
         ensures read { IfOk result (λ entries. ReadsFrom (D.step desk.now) (plain_listing self.now).queue
             (plain_listing self.now).base (plain_listing self.now).next
             (record { size = size; entries = entries.items } ∷ []) pass.old pass.new) }
@@ -119,8 +119,7 @@ impl Listing {
         out: &mut O,
     ) -> Result<(), BatchFault>
         requires accepted { D.accepts desk.now pass.old }
-        ensures accepted { D.accepts desk.now pass.new }
-        ensures number_unchanged { D.pass_number desk.now pass.new ≡ D.pass_number desk.now pass.old }
+        ensures pass { IsNextPass D.accepts D.pass_number desk.now pass.old pass.new }
         ensures batch { BatchOutcome (D.step desk.now) (plain_projection_option projection.entry) BATCH_LIMIT
             (plain_listing self.old) pass.old result (WroteAnswers O.items (O.contents out.old) (O.contents out.new))
             (plain_listing self.new) pass.new }

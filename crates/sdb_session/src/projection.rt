@@ -52,12 +52,9 @@ pub(crate) fn base_key(projection: Option<&Projection>, key: &Key) -> Result<Key
     ensures { IfOk result (λ base.
         plain_key base ≡ base_of (plain_projection_option projection.entry) (plain_key key.now)) }
 {
-    match projection {
+    match projected_base_key(projection, key)? {
         None => key.try_clone(),
-        Some(projection) => Ok(Key {
-            collection: projection.base.clone()?,
-            id: key.id.clone()?,
-        }),
+        Some(base) => Ok(base),
     }
 }
 

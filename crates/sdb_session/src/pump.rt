@@ -2,6 +2,7 @@
 ghost use Rattle.std.specs.Prelude.{◌≡◌, ⊤, ℕ, IfOk, OnOk, OnErr, length, map, string_bytes, true};
 ghost use Rattle.std.specs.Result.{is_err};
 ghost use Rattle.sdb_oplog.specs.Keys.{plain_key};
+ghost use Rattle.sdb_session.specs.PassModel.{IsNextPass};
 ghost use Rattle.sdb_session.specs.PumpModel.{is_own_entry, entries_of_others, CloseAllCalls, PumpRelation, PumpInterrupted};
 ghost use Rattle.sdb_session.specs.ProjectionModel.{projection_of_key};
 ghost use Rattle.sdb_session.specs.View.{WroteAnswers, has_ended, plain_session};
@@ -116,8 +117,7 @@ impl Session {
         out: &mut O,
     ) -> Result<u128, AllocError>
         requires accepted { D.accepts desk.now pass.old }
-        ensures accepted { D.accepts desk.now pass.new }
-        ensures number_unchanged { D.pass_number desk.now pass.new ≡ D.pass_number desk.now pass.old }
+        ensures pass { IsNextPass D.accepts D.pass_number desk.now pass.old pass.new }
         ensures pumped { IfOk result (λ taken. PumpRelation (D.step desk.now) max table.now
             (D.pass_number desk.now pass.old) (plain_session self.now) pass.old taken
             (WroteAnswers O.items (O.contents out.old) (O.contents out.new)) pass.new) }

@@ -2,6 +2,7 @@
 ghost use Rattle.std.specs.Prelude.{◌≡◌, ◌∷◌, [], true, false, IfOk, OnOk, map, string_bytes};
 ghost use Rattle.std.specs.Result.{is_err, is_ok};
 ghost use Rattle.sdb_oplog.specs.declared.codes.Code.TheVariants.{E1};
+ghost use Rattle.sdb_session.specs.PassModel.{IsNextPass};
 ghost use Rattle.sdb_session.specs.View.{WroteAnswers, has_ended, plain_session};
 ghost use Rattle.sdb_session.specs.Listing.{TextPart};
 ghost use Rattle.sdb_session.specs.ProgressView.{is_request_of, progress_result};
@@ -11,6 +12,7 @@ ghost use Rattle.sdb_wire.specs.Wire.{empty_echo, parse_message};
 
 use crate::answer_sink::AnswerSink;
 use crate::answers::{write_answer, write_refusal};
+use crate::context::Context;
 use crate::interner::NameInterner;
 use crate::listing::Listing;
 use crate::subscriptions::Subscription;
@@ -253,18 +255,17 @@ impl Session {
         }
     }
 
-    fn answer<D: Desk, O: AnswerSink>(
+    fn answer<'a, D: Desk, O: AnswerSink>(
         &mut self,
-        desk: &D,
+        desk: &'a D,
         pass: &mut D::Pass,
-        table: &Table,
+        table: &'a Table,
         text: &str,
         now: Moment,
         out: &mut O,
     ) -> Result<Progress, AllocError>
         requires accepted { D.accepts desk.now pass.old }
-        ensures accepted { D.accepts desk.now pass.new }
-        ensures number_unchanged { D.pass_number desk.now pass.new ≡ D.pass_number desk.now pass.old }
+        ensures pass { IsNextPass D.accepts D.pass_number desk.now pass.old pass.new }
         ensures request { IfOk result (λ p. is_request_of p ≡ is_ok (parse_message text.now).request) }
         ensures ended_unchanged { self.new.ended ≡ self.old.ended }
         ensures outcome { TextPart (D.step desk.now) text.now table.now (D.pass_number desk.now pass.old) now
@@ -275,13 +276,18 @@ impl Session {
         let progress = {
             let Message { json, request } = parse_message(self.alloc, text, &mut scratch)?;
             let message = json.as_ref();
+            let context = Context {
+                alloc: self.alloc,
+                desk,
+                table,
+                message,
+                moment: now,
+            };
             match request {
-                Ok(request) => {
-                    match self.answer_request(desk, pass, table, message, request, now, out)? {
-                        Some(listing) => Progress::Listing(listing),
-                        None => Progress::Done { is_request: true },
-                    }
-                }
+                Ok(request) => match self.answer_request(&context, pass, request, out)? {
+                    Some(listing) => Progress::Listing(listing),
+                    None => Progress::Done { is_request: true },
+                },
                 Err(code) => {
                     write_refusal(self.alloc, message, code, out)?;
                     Progress::Done { is_request: false }

@@ -2,67 +2,74 @@
 ghost use Rattle.std.specs.Prelude.{◌≡◌, ℕ, ◌<◌, ◌∷◌, [], IfOk, OnOk, OnErr, Ok, Err, None};
 ghost use Rattle.indexmap.specs.IndexMap.{spare};
 ghost use Rattle.sdb_oplog.specs.Keys.{plain_key};
-ghost use Rattle.sdb_session.specs.Listing.{RequestPart};
+ghost use Rattle.sdb_session.specs.PassModel.{IsNextPass};
+ghost use Rattle.sdb_session.specs.Handlers.{RequestHandled};
 ghost use Rattle.sdb_session.specs.ListingView.{listing_result};
 ghost use Rattle.sdb_session.specs.Responses.{CloseCalls, RefuseCalls, OpenCalls, subscribe_answers, PlainSubscribeReply};
 ghost use Rattle.sdb_session.specs.Sessions.{is_subscription_full, insert_subscription, queue_of, with_subscription, without_subscription};
-ghost use Rattle.sdb_session.specs.View.{open_result, plain_opened, queue_id_of, plain_session, plain_projection_option, echo_of_message, OutputUnlessFailed, WroteAnswers};
+ghost use Rattle.sdb_session.specs.View.{open_result, plain_opened, queue_id_of, plain_session, plain_projection_option, OutputUnlessFailed, WroteAnswers};
 ghost use Rattle.sdb_wire.specs.Answers.{unsubscribed};
 ghost use Rattle.sdb_wire.specs.Wire.{subscribe};
 
 use crate::answer_sink::AnswerSink;
 use crate::answers::{write_answer, write_refusal, write_subscribed_document};
+use crate::context::Context;
+use crate::dispatch::without_listing;
 use crate::listing::Listing;
 use crate::projection::base_key;
 use crate::session::{SUBSCRIPTION_LIMIT, Session};
 use crate::subscriptions::{Subscription, close_queue};
 use sdb_desk::SubscribeResult;
-use sdb_json::JsonTree;
 use sdb_oplog::{Code, Key};
-use sdb_projection::{Projection, Table};
+use sdb_projection::Projection;
 use sdb_submit::Desk;
 use sdb_wire::Answer;
 use std::alloc::AllocError;
+
+// A queue that was opened for a client's key, and the base document's key.
+#[derive(Drop)]
+struct OpenedQueue {
+    key: Key,
+    base: Key,
+    opened: SubscribeResult,
+}
 
 impl Session {
     // Subscribes. The old queue of the key is closed after the new one is open.
     pub(crate) fn subscribe<D: Desk, O: AnswerSink>(
         &mut self,
-        desk: &D,
+        context: &Context<'_, '_, '_, D>,
         pass: &mut D::Pass,
-        table: &Table,
-        message: Option<&JsonTree<'_>>,
         key: Key,
         version: Option<u64>,
         out: &mut O,
     ) -> Result<Option<Listing>, AllocError>
-        requires accepted { D.accepts desk.now pass.old }
-        ensures accepted { D.accepts desk.now pass.new }
-        ensures number_unchanged { D.pass_number desk.now pass.new ≡ D.pass_number desk.now pass.old }
-        ensures outcome { (t : ℕ) → RequestPart (D.step desk.now) (echo_of_message message.entry) table.now
-            (D.pass_number desk.now pass.old) t (plain_session self.old) (subscribe (plain_key key) version) pass.old
-            (listing_result result) (WroteAnswers O.items (O.contents out.old) (O.contents out.new))
+        requires accepted { D.accepts context.now.desk.now pass.old }
+        ensures pass { IsNextPass D.accepts D.pass_number context.now.desk.now pass.old pass.new }
+        ensures outcome { RequestHandled D.step D.pass_number context.now (plain_session self.old)
+            (subscribe (plain_key key) version) pass.old (listing_result result)
+            (WroteAnswers O.items (O.contents out.old) (O.contents out.new))
             (plain_session self.new) pass.new }
         ensures ended_unchanged { self.new.ended ≡ self.old.ended }
     {
-        let projection = table.find(key.collection.as_str());
+        let projection = context.table.find(key.collection.as_str());
         let base = base_key(projection, &key)?;
         if self.is_subscription_full(&key) {
-            let code = limit_code(desk, pass, &base, version);
-            write_refusal(self.alloc, message, code, out)?;
-            return Ok(None);
+            let code = limit_code(context.desk, pass, &base, version);
+            let refused = write_refusal(context.alloc, context.message, code, out);
+            return without_listing(refused);
         }
-        let opened = match self.open_queue(desk, pass, &base, version) {
+        let opened = match self.open_queue(context.desk, pass, &base, version) {
             Ok(opened) => opened,
             Err(code) => {
-                write_refusal(self.alloc, message, code, out)?;
-                return Ok(None);
+                let refused = write_refusal(context.alloc, context.message, code, out);
+                return without_listing(refused);
             }
         };
         match version {
             None => {
-                self.subscribe_document(desk, pass, projection, key, base, opened, out)?;
-                Ok(None)
+                let queue = OpenedQueue { key, base, opened };
+                without_listing(self.subscribe_document(context.desk, pass, projection, queue, out))
             }
             Some(next) => {
                 let listing = Listing {
@@ -72,7 +79,7 @@ impl Session {
                     end: opened.version,
                     queue: Some(opened.id),
                 };
-                self.begin_listing(desk, pass, table, message, listing, out)
+                self.begin_listing(context, pass, listing, out)
             }
         }
     }
@@ -87,8 +94,7 @@ impl Session {
         version: Option<u64>,
     ) -> Result<SubscribeResult, Code>
         requires accepted { D.accepts desk.now pass.old }
-        ensures accepted { D.accepts desk.now pass.new }
-        ensures number_unchanged { D.pass_number desk.now pass.new ≡ D.pass_number desk.now pass.old }
+        ensures pass { IsNextPass D.accepts D.pass_number desk.now pass.old pass.new }
         ensures opens { OpenCalls (D.step desk.now) (plain_key base.now) version pass.old (open_result result)
             pass.new }
         ensures capacity { OnOk result (0 < spare self.new.subscriptions) }
@@ -111,24 +117,22 @@ impl Session {
         desk: &D,
         pass: &mut D::Pass,
         projection: Option<&Projection>,
-        key: Key,
-        base: Key,
-        opened: SubscribeResult,
+        queue: OpenedQueue,
         out: &mut O,
     ) -> Result<(), AllocError>
         requires accepted { D.accepts desk.now pass.old }
         requires capacity { 0 < spare self.old.subscriptions }
-        ensures accepted { D.accepts desk.now pass.new }
-        ensures number_unchanged { D.pass_number desk.now pass.new ≡ D.pass_number desk.now pass.old }
-        ensures close_calls { CloseCalls (D.step desk.now) (queue_of (plain_key key) (plain_session self.old).subs)
-            pass.old pass.new }
-        ensures session { plain_session self.new ≡ with_subscription (plain_session self.old) (plain_key key)
-            (record { base = plain_key base; id = opened.id }) }
+        ensures pass { IsNextPass D.accepts D.pass_number desk.now pass.old pass.new }
+        ensures close_calls { CloseCalls (D.step desk.now)
+            (queue_of (plain_key queue.key) (plain_session self.old).subs) pass.old pass.new }
+        ensures session { plain_session self.new ≡ with_subscription (plain_session self.old)
+            (plain_key queue.key) (record { base = plain_key queue.base; id = queue.opened.id }) }
         ensures output { OnOk result (WroteAnswers O.items (O.contents out.old) (O.contents out.new)
-            (subscribe_answers (plain_projection_option projection.entry) (plain_key key) None
-            (record { opened = plain_opened opened; first = [] }))) }
+            (subscribe_answers (plain_projection_option projection.entry) (plain_key queue.key) None
+            (record { opened = plain_opened queue.opened; first = [] }))) }
         ensures ended_unchanged { self.new.ended ≡ self.old.ended }
     {
+        let OpenedQueue { key, base, opened } = queue;
         let id = opened.id;
         let written = write_subscribed_document(self.alloc, projection, &key, opened, out);
         self.replace_queue(desk, pass, key, Subscription { base, id });
@@ -145,8 +149,7 @@ impl Session {
     )
         requires accepted { D.accepts desk.now pass.old }
         requires capacity { 0 < spare self.old.subscriptions }
-        ensures accepted { D.accepts desk.now pass.new }
-        ensures number_unchanged { D.pass_number desk.now pass.new ≡ D.pass_number desk.now pass.old }
+        ensures pass { IsNextPass D.accepts D.pass_number desk.now pass.old pass.new }
         ensures close_calls { CloseCalls (D.step desk.now) (queue_of (plain_key key) (plain_session self.old).subs)
             pass.old pass.new }
         ensures session { plain_session self.new
@@ -184,8 +187,7 @@ impl Session {
         out: &mut O,
     ) -> Result<(), AllocError>
         requires accepted { D.accepts desk.now pass.old }
-        ensures accepted { D.accepts desk.now pass.new }
-        ensures number_unchanged { D.pass_number desk.now pass.new ≡ D.pass_number desk.now pass.old }
+        ensures pass { IsNextPass D.accepts D.pass_number desk.now pass.old pass.new }
         ensures close_calls { CloseCalls (D.step desk.now) (queue_of (plain_key key.now) (plain_session self.old).subs)
             pass.old pass.new }
         ensures output { OutputUnlessFailed result (WroteAnswers O.items (O.contents out.old) (O.contents out.new))
@@ -203,8 +205,7 @@ impl Session {
 // reached.
 fn limit_code<D: Desk>(desk: &D, pass: &mut D::Pass, base: &Key, version: Option<u64>) -> Code
     requires accepted { D.accepts desk.now pass.old }
-    ensures accepted { D.accepts desk.now pass.new }
-    ensures number_unchanged { D.pass_number desk.now pass.new ≡ D.pass_number desk.now pass.old }
+    ensures pass { IsNextPass D.accepts D.pass_number desk.now pass.old pass.new }
     ensures refuse_calls { RefuseCalls (D.step desk.now (plain_key base.now)) version pass.old (Err result) pass.new }
 {
     match version {

@@ -1,6 +1,7 @@
 //! Opening and closing of queues.
 ghost use Rattle.std.specs.Prelude.{◌≡◌, option_map};
 ghost use Rattle.sdb_oplog.specs.Keys.{plain_key};
+ghost use Rattle.sdb_session.specs.PassModel.{IsNextPass};
 ghost use Rattle.sdb_session.specs.PumpModel.{TakeCall};
 ghost use Rattle.sdb_session.specs.View.{queue_id_of, taken_entries_view};
 ghost use Rattle.sdb_session.specs.Responses.{CloseCalls};
@@ -20,8 +21,7 @@ pub(crate) struct Subscription {
 // Closes the queue, if there is one.
 pub(crate) fn close_queue<D: Desk>(desk: &D, pass: &mut D::Pass, queue: Option<&Subscription>)
     requires accepted { D.accepts desk.now pass.old }
-    ensures accepted { D.accepts desk.now pass.new }
-    ensures number_unchanged { D.pass_number desk.now pass.new ≡ D.pass_number desk.now pass.old }
+    ensures pass { IsNextPass D.accepts D.pass_number desk.now pass.old pass.new }
     ensures close_calls { CloseCalls (D.step desk.now) (option_map
         (λ s. queue_id_of s.now) queue.entry) pass.old pass.new }
 {
@@ -40,8 +40,7 @@ pub(crate) fn take_entries<D: Desk>(
     max: u64,
 ) -> Result<Vec<Entry>, AllocError>
     requires accepted { D.accepts desk.now pass.old }
-    ensures accepted { D.accepts desk.now pass.new }
-    ensures number_unchanged { D.pass_number desk.now pass.new ≡ D.pass_number desk.now pass.old }
+    ensures pass { IsNextPass D.accepts D.pass_number desk.now pass.old pass.new }
     ensures takes_one { TakeCall (D.step desk.now) max (record { base = plain_key base.now; id = id })
         pass.old (taken_entries_view result) pass.new }
 {

@@ -1,10 +1,11 @@
 -- The views of the types.
-use Rattle.std.specs.Prelude.{◌≡◌, Option, Result, Ok, Err, option_map, string_bytes}
+use Rattle.std.specs.Prelude.{◌≡◌, ℕ, Option, Result, Ok, Err, option_map, string_bytes}
 use Rattle.std.specs.Option.{option_map_or}
 use Rattle.std.specs.declared.alloc.Global.{Global}
 use Rattle.serde_json.specs.Data.{Data}
 use Rattle.sdb_json.specs.TreeData.{tree_data}
 use Rattle.json.specs.declared.value.Value.{Value}
+use Rattle.sdb_value.specs.Value.{Value as PlainValue}
 use Rattle.sdb_value.specs.View.{value_of}
 use Rattle.sdb_oplog.specs.Keys.{plain_key}
 use Rattle.sdb_oplog.specs.declared.codes.Code.{Code}
@@ -19,8 +20,9 @@ use Rattle.sdb_wire.specs.declared.message.Request.{Request}
 use Rattle.sdb_wire.specs.declared.message.Request.TheVariants.{Hello, Fetch, Subscribe, Unsubscribe, Submit, Snapshot, SnapshotAtTime}
 use Rattle.sdb_wire.specs.declared.message.Message.{Message}
 use Rattle.sdb_wire.specs.declared.message.Answer.{Answer}
-use Rattle.sdb_wire.specs.declared.message.Answer.TheVariants.{Init, HelloAck, Fetched, ListEnd, Subscribed, CaughtUp, Unsubscribed, OpMessage, Acknowledged, Failed}
-use Rattle.sdb_wire.specs.declared.message.Answer.TheVariants as answer
+use Rattle.sdb_wire.specs.declared.message.Answer.TheVariants.{Init, HelloAck, Document, ListEnd, Subscribed, CaughtUp, Unsubscribed, OpMessage, Acknowledged, Failed}
+use Rattle.sdb_wire.specs.declared.message.DocumentRequest.{DocumentRequest}
+use Rattle.sdb_wire.specs.declared.message.DocumentRequest.TheVariants as of
 
 abbrev pub plain_echo_value : EchoValue → PlainEchoValue
 plain_echo_value (Text s) = text (string_bytes s)
@@ -56,16 +58,20 @@ echo_or_empty m = option_map_or (λ v. echo_members (tree_data v)) m empty_echo
 abbrev pub plain_message : Message → PlainMessage
 plain_message m = record { echo = echo_or_empty m.json; request = request_view m.request }
 
+-- a document as the answer to its request
+abbrev pub document_answer : DocumentRequest → ℕ → Option PlainValue → PlainAnswer
+document_answer (of.Fetch k) v d = fetched (plain_key k.now) v d
+document_answer (of.Snapshot n) v d = snapshot n v d
+document_answer (of.SnapshotAtTime n) v d = snapshot_at_time n v d
+
 abbrev pub plain_answer : Answer → PlainAnswer
 plain_answer (Init src) = init src.now
 plain_answer (HelloAck src) = hello_ack src.now
-plain_answer (Fetched k v d) = fetched (plain_key k.now) v (option_map (λ j. value_of j.now) d)
+plain_answer (Document r v d) = document_answer r v (option_map (λ j. value_of j.now) d)
 plain_answer (ListEnd k) = list_end (plain_key k.now)
 plain_answer (Subscribed k v d) = subscribed (plain_key k.now) v (option_map (λ j. value_of j.now) d)
 plain_answer (CaughtUp k) = caught_up (plain_key k.now)
 plain_answer (Unsubscribed k) = unsubscribed (plain_key k.now)
-plain_answer (answer.Snapshot n v d) = snapshot n v (option_map (λ j. value_of j.now) d)
-plain_answer (answer.SnapshotAtTime n v d) = snapshot_at_time n v (option_map (λ j. value_of j.now) d)
 plain_answer (OpMessage k e c) = op_message (plain_key k.now) (with_content e.now c.now)
 plain_answer (Acknowledged k src seq v) = acknowledged (plain_key k.now) src.now seq v
 plain_answer (Failed echo code) = failed (plain_echo echo.now) code

@@ -4,19 +4,22 @@
 mod codes;
 mod entries;
 mod fields;
+mod members;
 mod message;
+mod operations;
 mod read;
 mod write;
 
 pub use codes::refusal_code;
 pub use entries::entry_value;
 pub use fields::{count_field, moment_of, optional_count, optional_moment, required_name};
+pub use members::{write_count, write_text};
 pub use message::{
-    Answer, BadMessage, Echo, EchoValue, MESSAGE_LIMIT, Message, NAME_LIMIT, Request,
+    Answer, BadMessage, DocumentRequest, Echo, EchoValue, MESSAGE_LIMIT, Message, NAME_LIMIT,
+    Request,
 };
+pub use operations::{write_create, write_entry};
 pub use read::{
     echo_of, empty_echo, parse_message, parse_tree, read_content, read_key, read_message,
 };
-pub use write::{
-    append_answer_text, reply_text, write_count, write_create, write_entry, write_text,
-};
+pub use write::{append_answer_text, reply_text};

@@ -91,6 +91,17 @@ pub struct Message<'a> {
     pub request: Result<Request, Code>,
 }
 
+/// The request that a document answers, with the members that the answer repeats.
+#[derive(Drop)]
+pub enum DocumentRequest<'a> {
+    /// A fetch of this key.
+    Fetch { key: &'a Key },
+    /// A fetch by version.
+    Snapshot { id: u64 },
+    /// A fetch by time.
+    SnapshotAtTime { id: u64 },
+}
+
 /// An answer. Each is one text.
 #[derive(Drop)]
 pub enum Answer<'a> {
@@ -102,9 +113,9 @@ pub enum Answer<'a> {
     HelloAck {
         src: &'a str,
     },
-    /// The current version and document.
-    Fetched {
-        key: &'a Key,
+    /// A version and the document at it, in reply to this request.
+    Document {
+        request: DocumentRequest<'a>,
         version: u64,
         document: Option<&'a Json>,
     },
@@ -125,18 +136,6 @@ pub enum Answer<'a> {
     /// The end of a subscription.
     Unsubscribed {
         key: &'a Key,
-    },
-    /// The document at a version, with the number of its request.
-    Snapshot {
-        id: u64,
-        version: u64,
-        document: Option<&'a Json>,
-    },
-    /// The document at a moment, with its version and the number of its request.
-    SnapshotAtTime {
-        id: u64,
-        version: u64,
-        document: Option<&'a Json>,
     },
     /// An operation message. Its content is the entry's, or a part of it through a projection.
     OpMessage {

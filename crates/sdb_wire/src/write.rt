@@ -1,20 +1,20 @@
 //! The writer of answers.
-ghost use Rattle.std.specs.Prelude.{◌≡◌, ◌∷◌, [], ◌++◌, Some, None, IfOk, IfSome, OnOk, OnErr, string_bytes, option_map, decimal, codes};
+ghost use Rattle.std.specs.Prelude.{◌≡◌, ◌∷◌, [], ◌++◌, Some, None, IfOk, OnOk, OnErr, string_bytes, option_map, codes};
 ghost use Rattle.json.specs.Print.{print};
-ghost use Rattle.json.specs.Token.{begin_object, key as key_token, string, number};
-ghost use Rattle.json.specs.Written.{WritesFront};
+ghost use Rattle.json.specs.Token.{begin_object, key as key_token, string};
 ghost use Rattle.serde_json.specs.Data.{Members};
 ghost use Rattle.sdb_value.specs.ToJson.{data_tokens, object_tail_tokens};
 ghost use Rattle.sdb_value.specs.View.{value_of};
 ghost use Rattle.sdb_oplog.specs.Keys.{plain_key};
-ghost use Rattle.sdb_wire.specs.Answers.{answer_text, answer_tokens, hello_data, document_data, version_data, key_data, op_message, with_content, acknowledged, failed, snapshot_data, create_data, content_members, entry_data, entry_members, op_tail, error_data, push_member};
-ghost use Rattle.sdb_wire.specs.View.{plain_answer, plain_echo, plain_echo_value};
+ghost use Rattle.sdb_wire.specs.Answers.{answer_text, answer_tokens, hello_data, document_data, version_data, key_data, acknowledged, failed, snapshot_data, error_data, push_member};
+ghost use Rattle.sdb_wire.specs.View.{plain_answer, document_answer, plain_echo, plain_echo_value};
 
 use crate::codes::{code_name, code_text};
-use crate::message::{Answer, Echo, EchoValue, TYPE};
+use crate::members::{write_count, write_text};
+use crate::message::{Answer, DocumentRequest, Echo, EchoValue, TYPE};
+use crate::operations::write_op_message;
 use json::Writer;
-use sdb_component::{Op, write_op};
-use sdb_oplog::{Code, Content, Entry, Key, Kind};
+use sdb_oplog::{Code, Key};
 use sdb_value::{Json, write_value};
 use std::alloc::{AllocError, Global};
 
@@ -92,11 +92,11 @@ fn write_answer(answer: &Answer<'_>, out: &mut Writer) -> Result<(), AllocError>
     match answer {
         Answer::Init { src } => write_hello_answer("init", src, out),
         Answer::HelloAck { src } => write_hello_answer("hs", src, out),
-        Answer::Fetched {
-            key,
+        Answer::Document {
+            request,
             version,
             document,
-        } => write_document("f", key, *version, *document, out),
+        } => write_requested_document(request, *version, *document, out),
         Answer::ListEnd { key } => write_key("f", key, out),
         Answer::Subscribed {
             key,
@@ -105,16 +105,6 @@ fn write_answer(answer: &Answer<'_>, out: &mut Writer) -> Result<(), AllocError>
         } => write_document("s", key, *version, *document, out),
         Answer::CaughtUp { key } => write_key("s", key, out),
         Answer::Unsubscribed { key } => write_key("u", key, out),
-        Answer::Snapshot {
-            id,
-            version,
-            document,
-        } => write_snapshot_at("nf", *id, *version, *document, out),
-        Answer::SnapshotAtTime {
-            id,
-            version,
-            document,
-        } => write_snapshot_at("nt", *id, *version, *document, out),
         Answer::OpMessage {
             key,
             entry,
@@ -128,35 +118,6 @@ fn write_answer(answer: &Answer<'_>, out: &mut Writer) -> Result<(), AllocError>
         } => write_ack(key, src, *seq, *version, out),
         Answer::Failed { echo, code } => write_error_answer(echo, *code, out),
     }
-}
-
-/// Writes a member of an object with a text.
-///
-/// # Errors
-///
-/// [`AllocError`] if an allocation fails. A prefix of the tokens may then be written.
-pub fn write_text(name: &str, text: &str, out: &mut Writer) -> Result<(), AllocError>
-    ensures tokens { OnOk result (out.new.tokens ≡ out.old.tokens ++ key_token name.now ∷ string text.now ∷ []) }
-    ensures before_unchanged { out.new.before ≡ out.old.before }
-    ensures err { OnErr result (WritesFront out.old.tokens out.new.tokens (key_token name.now ∷ string text.now ∷ [])) }
-{
-    out.key(name)?;
-    out.string(text)
-}
-
-/// Writes a member of an object with a number.
-///
-/// # Errors
-///
-/// [`AllocError`] if an allocation fails. A prefix of the tokens may then be written.
-pub fn write_count(name: &str, count: u64, out: &mut Writer) -> Result<(), AllocError>
-    ensures tokens { OnOk result (out.new.tokens ≡ out.old.tokens ++ key_token name.now ∷ number (decimal count) ∷ []) }
-    ensures before_unchanged { out.new.before ≡ out.old.before }
-    ensures err { OnErr result (WritesFront out.old.tokens out.new.tokens
-        (key_token name.now ∷ number (decimal count) ∷ [])) }
-{
-    out.key(name)?;
-    out.u64(count)
 }
 
 // Writes the first members of an answer about a document.
@@ -206,6 +167,27 @@ fn write_snapshot(version: u64, document: Option<&Json>, out: &mut Writer) -> Re
     }
     write_count("v", version, out)?;
     out.end_object()
+}
+
+// Writes the document that answers a request.
+fn write_requested_document(
+    request: &DocumentRequest<'_>,
+    version: u64,
+    document: Option<&Json>,
+    out: &mut Writer,
+) -> Result<(), AllocError>
+    ensures tokens { OnOk result (out.new.tokens
+        ≡ out.old.tokens ++ answer_tokens
+        (document_answer request.now version (option_map (λ d. value_of d.now) document.entry))) }
+    ensures before_unchanged { out.new.before ≡ out.old.before }
+{
+    match request {
+        DocumentRequest::Fetch { key } => write_document("f", key, version, document, out),
+        DocumentRequest::Snapshot { id } => write_snapshot_at("nf", *id, version, document, out),
+        DocumentRequest::SnapshotAtTime { id } => {
+            write_snapshot_at("nt", *id, version, document, out)
+        }
+    }
 }
 
 // Writes the current version and document.
@@ -288,119 +270,6 @@ fn write_absent_at(word: &str, id: u64, version: u64, out: &mut Writer) -> Resul
     out.key("type")?;
     out.null()?;
     write_count("v", version, out)?;
-    out.end_object()
-}
-
-// Writes an operation message with this content.
-fn write_op_message(
-    key: &Key,
-    entry: &Entry,
-    content: &Content,
-    out: &mut Writer,
-) -> Result<(), AllocError>
-    ensures tokens { OnOk result (out.new.tokens
-        ≡ out.old.tokens ++ answer_tokens
-        (op_message (plain_key key.now) (with_content entry.now content.now))) }
-    ensures before_unchanged { out.new.before ≡ out.old.before }
-{
-    out.begin_object()?;
-    write_text("a", "op", out)?;
-    write_content(key, content, out)?;
-    write_tail(entry, out)
-}
-
-/// Writes an entry, as [`entry_value`](crate::entry_value) has it.
-///
-/// # Errors
-///
-/// [`AllocError`] if an allocation fails. A prefix of the tokens may then be written.
-pub fn write_entry(entry: &Entry, out: &mut Writer) -> Result<(), AllocError>
-    ensures tokens { OnOk result (out.new.tokens ≡ out.old.tokens ++ data_tokens (entry_data entry.now)) }
-    ensures before_unchanged { out.new.before ≡ out.old.before }
-    ensures err { OnErr result (WritesFront out.old.tokens out.new.tokens (data_tokens (entry_data entry.now))) }
-{
-    out.begin_object()?;
-    write_entry_content(entry, out)?;
-    write_tail(entry, out)
-}
-
-// Writes the content without the key.
-fn write_entry_content(entry: &Entry, out: &mut Writer) -> Result<(), AllocError>
-    ensures tokens { OnOk result (out.new.tokens ++ object_tail_tokens (op_tail entry.now)
-        ≡ out.old.tokens ++ object_tail_tokens (entry_members entry.now (entry.now).content)) }
-    ensures before_unchanged { out.new.before ≡ out.old.before }
-    ensures err { OnErr result (WritesFront out.old.tokens out.new.tokens
-        (object_tail_tokens (entry_members entry.now (entry.now).content))) }
-{
-    match entry.content().kind() {
-        Kind::Create(value) => {
-            out.key("create")?;
-            write_create(value, out)
-        }
-        Kind::Delete => {
-            out.key("del")?;
-            out.boolean(true)
-        }
-        Kind::Edit(op) => {
-            out.key("op")?;
-            write_op(op, out)
-        }
-    }
-}
-
-// Writes the members after the content, and the end of the object.
-fn write_tail(entry: &Entry, out: &mut Writer) -> Result<(), AllocError>
-    ensures tokens { OnOk result (out.new.tokens ≡ out.old.tokens ++ object_tail_tokens (op_tail entry.now)) }
-    ensures before_unchanged { out.new.before ≡ out.old.before }
-    ensures err { OnErr result (WritesFront out.old.tokens out.new.tokens (object_tail_tokens (op_tail entry.now))) }
-{
-    write_count("seq", entry.arrived().seq(), out)?;
-    write_text("src", entry.arrived().src(), out)?;
-    write_count("v", entry.version(), out)?;
-    out.end_object()
-}
-
-// Writes the key and the content, with members in byte order.
-fn write_content(key: &Key, content: &Content, out: &mut Writer) -> Result<(), AllocError>
-    ensures tokens { OnOk result ((rest : Members) → out.new.tokens ++ object_tail_tokens rest
-        ≡ out.old.tokens ++ object_tail_tokens (content_members (plain_key key.now) content.now rest)) }
-    ensures before_unchanged { out.new.before ≡ out.old.before }
-{
-    write_text("c", key.collection.as_str(), out)?;
-    match content.kind() {
-        Kind::Create(value) => {
-            out.key("create")?;
-            write_create(value, out)?;
-            write_text("d", key.id.as_str(), out)
-        }
-        Kind::Delete => {
-            write_text("d", key.id.as_str(), out)?;
-            out.key("del")?;
-            out.boolean(true)
-        }
-        Kind::Edit(op) => {
-            write_text("d", key.id.as_str(), out)?;
-            out.key("op")?;
-            write_op(op, out)
-        }
-    }
-}
-
-/// Writes the data and the type of a create.
-///
-/// # Errors
-///
-/// [`AllocError`] if an allocation fails. A prefix of the tokens may then be written.
-pub fn write_create(value: &Json, out: &mut Writer) -> Result<(), AllocError>
-    ensures tokens { OnOk result (out.new.tokens ≡ out.old.tokens ++ data_tokens (create_data (value_of value.now))) }
-    ensures before_unchanged { out.new.before ≡ out.old.before }
-    ensures err { OnErr result (WritesFront out.old.tokens out.new.tokens
-        (data_tokens (create_data (value_of value.now)))) }
-{
-    out.begin_object()?;
-    out.key("data")?;
-    write_value(value, out)?;
-    write_text("type", TYPE, out)?;
     out.end_object()
 }
 

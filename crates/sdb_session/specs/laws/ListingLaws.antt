@@ -12,7 +12,7 @@ use Rattle.sdb_wire.specs.Wire.{PlainEcho, PlainRequest, hello, fetch, subscribe
 use Rattle.sdb_wire.specs.Answers.{PlainAnswer, failed}
 use Rattle.sdb_session.specs.Listing.{PlainListing, entries_left, end_answer, ReadsFrom, FailsToRead, ClosesNewQueue, ListingOpens, ListingContinues, ListingFinishes, ListingInterrupted, MessageBegins, PartOutcome, StopsOrDone, InterruptsOrDone}
 use Rattle.sdb_session.specs.ProjectionModel.{projection_of_key, base_key}
-use Rattle.sdb_session.specs.Responses.{PlainSubscribeReply, entry_answers, SubscribeCalls, RequestOutcome, RequestInterrupted, MessageOutcome, MessageInterrupted}
+use Rattle.sdb_session.specs.Responses.{PlainSubscribeReply, entry_answers, FailsToTake, OpensAndTakes, OpensAndCloses, SubscribeCalls, RequestOutcome, RequestInterrupted, MessageOutcome, MessageInterrupted}
 use Rattle.sdb_session.specs.Sessions.{PlainSession, queue_of}
 
 -- ---- batches
@@ -121,41 +121,42 @@ module _ {P : Type 0} (acts : PlainKey → CallRelation P) where
         closes = b.closes;
       }
 
-  -- the answers of a finished listing may be forgotten
-  pub finishes_any : (t : List PlainProjection) (says : List PlainAnswer → Type 0) (l : PlainListing) (s new : PlainSession) (p q : P)
-      → ListingFinishes acts t l s p says new q → ListingFinishes acts t l s p (λ answers. ⊤) new q
-  finishes_any t says l s new p q a = record { batches = a.batches; between = a.between; reads = a.reads; all = a.all; replaces = a.replaces; said = tt }
-
   -- ---- the request that a listing answers
 
   module _ (t : List PlainProjection) (s : PlainSession) where
     -- all entries are written
     pub finished_outcome : (e : PlainEcho) (by now : ℕ) (r : PlainRequest) (p : P) (l : PlainListing) (m : P) (says : List PlainAnswer → Type 0) (new : PlainSession) (q : P)
         → ListingOpens acts t s r p l m → ListingFinishes acts t l s m says new q → RequestOutcome acts e t by now s r p says new q
-    finished_outcome e by now (fetch k (Some v)) p l m says new q (end, (at, within, is)) fin =
-        let a = subst (λ (x : PlainListing). ListingFinishes acts t x s m says new q) is fin in
+    finished_outcome e by now (fetch k (Some v)) p l m says new q o fin =
+        let a = subst (λ (x : PlainListing). ListingFinishes acts t x s m says new q) o.listing_is fin in
         let b = base_key t k in
         let total = a.all in
-        let n : end ≡ v + total_size a.batches = omega (arith, total, within) in (
-          Ok (entries_of a.batches),
-          (
-            (a.batches, (m, (subst (λ i. acts b current_version p i m) n at, subst (λ y. ReadsBatches (acts b) v a.batches m y) (sym a.replaces.0) a.reads, refl))),
-            a.replaces.1,
-            a.said,
-          ),
-        )
+        let within = o.within in
+        let n : o.end ≡ v + total_size a.batches = omega (arith, total, within) in
+        record {
+          reply = Ok (entries_of a.batches);
+          calls = (a.batches, (m, (subst (λ i. acts b current_version p i m) n o.reads, subst (λ y. ReadsBatches (acts b) v a.batches m y) (sym a.replaces.0) a.reads, refl)));
+          session_is = a.replaces.1;
+          said = a.said;
+        }
     finished_outcome e by now (fetch k None) p l m says new q h fin = absurd h
-    finished_outcome e by now (subscribe k (Some v)) p l m says new q (o, (full, opens, is)) fin =
-        let a = subst (λ (x : PlainListing). ListingFinishes acts t x s m says new q) is fin in
+    finished_outcome e by now (subscribe k (Some v)) p l m says new q o fin =
+        let a = subst (λ (x : PlainListing). ListingFinishes acts t x s m says new q) o.listing_is fin in
         let b = base_key t k in
-        let j : PlainSubscribeReply = record { opened = o; first = entries_of a.batches } in (
-          Ok j,
-          (
-            subst (λ x. SubscribeCalls acts x b (Some v) (queue_of k s.subs) p (Ok j) q) (sym full) (m, (a.between, (opens, (a.batches, (a.reads, a.all, refl)), a.replaces.0))),
-            a.replaces.1,
-            a.said,
-          ),
-        )
+        let j : PlainSubscribeReply = record { opened = o.opened; first = entries_of a.batches } in
+        let takes : OpensAndTakes acts b (Some v) (queue_of k s.subs) p j q = record {
+          after_open = m;
+          after_takes = a.between;
+          opens = o.opens;
+          takes = record { batches = a.batches; takes = a.reads; all = a.all; entries_are = refl };
+          closes = a.replaces.0;
+        } in
+        record {
+          reply = Ok j;
+          calls = subst (λ x. SubscribeCalls acts x b (Some v) (queue_of k s.subs) p (Ok j) q) (sym o.not_full) takes;
+          session_is = a.replaces.1;
+          said = a.said;
+        }
     finished_outcome e by now (subscribe k None) p l m says new q h fin = absurd h
     finished_outcome e by now (hello n) p l m says new q h fin = absurd h
     finished_outcome e by now (unsubscribe k) p l m says new q h fin = absurd h
@@ -177,13 +178,21 @@ module _ {P : Type 0} (acts : PlainKey → CallRelation P) where
     -- the listing is interrupted
     pub opened_interrupted : (r : PlainRequest) (p : P) (l : PlainListing) (m q : P) → ListingOpens acts t s r p l m → ListingInterrupted acts l m q
         → RequestInterrupted acts t r p q
-    opened_interrupted (fetch k (Some v)) p l m q (end, (at, within, is)) stop =
-        let a = subst (λ (x : PlainListing). ListingInterrupted acts x m q) is stop in
-        (end, (a.batches, (m, (a.between, (at, a.reads, log_fault (base_key t k) (v + total_size a.batches) end a.between a.last q a.fails a.closes)))))
+    opened_interrupted (fetch k (Some v)) p l m q o stop =
+        let a = subst (λ (x : PlainListing). ListingInterrupted acts x m q) o.listing_is stop in
+        (o.end, (a.batches, (m, (a.between, (o.reads, a.reads, log_fault (base_key t k) (v + total_size a.batches) o.end a.between a.last q a.fails a.closes)))))
     opened_interrupted (fetch k None) p l m q h stop = absurd h
-    opened_interrupted (subscribe k (Some v)) p l m q (o, (full, opens, is)) stop =
-        let a = subst (λ (x : PlainListing). ListingInterrupted acts x m q) is stop in
-        (o, (m, (a.last, (opens, (a.batches, (a.between, (a.reads, queue_fault (base_key t k) (v + total_size a.batches) o.version o.id a.between a.last a.fails))), a.closes))))
+    opened_interrupted (subscribe k (Some v)) p l m q o stop =
+        let a = subst (λ (x : PlainListing). ListingInterrupted acts x m q) o.listing_is stop in
+        let n = v + total_size a.batches in
+        record {
+          opened = o.opened;
+          after_open = m;
+          after_takes = a.last;
+          opens = o.opens;
+          takes = (a.batches, (a.between, (a.reads, queue_fault (base_key t k) n o.opened.version o.opened.id a.between a.last a.fails)));
+          closes = a.closes;
+        }
     opened_interrupted (subscribe k None) p l m q h stop = absurd h
     opened_interrupted (hello n) p l m q h stop = absurd h
     opened_interrupted (unsubscribe k) p l m q h stop = absurd h
@@ -195,29 +204,36 @@ module _ {P : Type 0} (acts : PlainKey → CallRelation P) where
     pub unread_outcome : (e : PlainEcho) (by now : ℕ) (r : PlainRequest) (p : P) (l : PlainListing) (m n q : P) (says : List PlainAnswer → Type 0)
         → ListingOpens acts t s r p l m → FailsToRead acts l.queue l.base l.next l.end m n → ClosesNewQueue acts l.queue l.base n q → says (failed e E10 ∷ [])
         → RequestOutcome acts e t by now s r p says s q
-    unread_outcome e by now (fetch k (Some v)) p l m n q says (end, (at, within, is)) fails closes said =
+    unread_outcome e by now (fetch k (Some v)) p l m n q says o fails closes said =
         let b = base_key t k in
-        let f = subst (λ (x : PlainListing). FailsToRead acts x.queue x.base x.next x.end m n) is fails in
-        let c = subst (λ (x : PlainListing). ClosesNewQueue acts x.queue x.base n q) is closes in (
-          Err E10,
-          (
-            inr (end, (f.0, (m, (at, subst (λ y. acts b (ops_between v f.0) m None y) (sym c) f.1.0, f.1.1, refl)))),
-            refl,
-            said,
-          ),
-        )
+        let f = subst (λ (x : PlainListing). FailsToRead acts x.queue x.base x.next x.end m n) o.listing_is fails in
+        let c = subst (λ (x : PlainListing). ClosesNewQueue acts x.queue x.base n q) o.listing_is closes in
+        record {
+          reply = Err E10;
+          calls = inr (o.end, (f.0, (m, (o.reads, subst (λ y. acts b (ops_between v f.0) m None y) (sym c) f.1.0, f.1.1, refl))));
+          session_is = refl;
+          said = said;
+        }
     unread_outcome e by now (fetch k None) p l m n q says h fails closes said = absurd h
-    unread_outcome e by now (subscribe k (Some v)) p l m n q says (o, (full, opens, is)) fails closes said =
+    unread_outcome e by now (subscribe k (Some v)) p l m n q says o fails closes said =
         let b = base_key t k in
-        let f = subst (λ (x : PlainListing). FailsToRead acts x.queue x.base x.next x.end m n) is fails in
-        let c = subst (λ (x : PlainListing). ClosesNewQueue acts x.queue x.base n q) is closes in (
-          Err E10,
-          (
-            subst (λ x. SubscribeCalls acts x b (Some v) (queue_of k s.subs) p (Err E10) q) (sym full) (inr (o, (m, (n, (opens, f, c, refl))))),
-            refl,
-            said,
-          ),
-        )
+        let f = subst (λ (x : PlainListing). FailsToRead acts x.queue x.base x.next x.end m n) o.listing_is fails in
+        let c = subst (λ (x : PlainListing). ClosesNewQueue acts x.queue x.base n q) o.listing_is closes in
+        let closed : OpensAndCloses acts b (Some v) p (FailsToTake acts b) E10 q = record {
+          opened = o.opened;
+          after_open = m;
+          after_failure = n;
+          opens = o.opens;
+          fails_after = f;
+          closes = c;
+          is_memory = refl;
+        } in
+        record {
+          reply = Err E10;
+          calls = subst (λ x. SubscribeCalls acts x b (Some v) (queue_of k s.subs) p (Err E10) q) (sym o.not_full) (inr closed);
+          session_is = refl;
+          said = said;
+        }
     unread_outcome e by now (subscribe k None) p l m n q says h fails closes said = absurd h
     unread_outcome e by now (hello i) p l m n q says h fails closes said = absurd h
     unread_outcome e by now (unsubscribe k) p l m n q says h fails closes said = absurd h

@@ -1,5 +1,4 @@
 use Rattle.std.proofs.Common.{◌≡◌, ℕ, Bool, true, false, cond, nat_lt, Option, Some, None, option_and_then, refl, sym, ap, ◌∙◌}
-use Rattle.sdb_wire.proofs.fields.moment_of.Goals as goal
 
 abbrev within : ℕ → Option ℕ
 within n = cond (nat_lt 9007199254740991 n) None (Some n)

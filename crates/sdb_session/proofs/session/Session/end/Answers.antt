@@ -2,13 +2,13 @@ use Rattle.std.proofs.Common.{◌++◌, [], ◌∷◌, map, refl, sym, ap, ◌�
 use Rattle.sdb_oplog.specs.declared.keys.Key.{Key}
 use Rattle.sdb_session.specs.View.{plain_subscription}
 use Rattle.sdb_session.specs.declared.subscriptions.Subscription.{Subscription}
+use Rattle.sdb_session.proofs.PassLemmas.{next_pass_trans}
 use Rattle.sdb_session.proofs.PumpLemmas.{closed_more, closed_none}
 use Rattle.sdb_session.proofs.session.Session.end.Goals as goal
 
 pub loop-queue-init : goal.loop-queue-init
 loop-queue-init g c = record {
-  takes = c.requires.accepted;
-  number = refl;
+  pass = record { accepted = c.requires.accepted; number_unchanged = refl };
   so_far = ([], (ap (map plain_subscription) (c.into_iter-queue-iterator.ensures.into_iter_gives ∙ c.iter-queue-items.ensures.rest), closed_none (g.D.Desk.step c.args.desk.now) c.args.pass.now));
 }
 
@@ -18,8 +18,7 @@ loop-queue-preserved g c =
     let e : Key × Subscription = (c.in-Some.field-0-0.now, c.in-Some.queue.now) in
     let rest = c.next.new.self in
     record {
-      takes = c.unsubscribe.ensures.accepted;
-      number = c.unsubscribe.ensures.number_unchanged ∙ c.loop-queue.invariant.number;
+      pass = next_pass_trans c.loop-queue.invariant.pass (record { accepted = c.unsubscribe.ensures.accepted; number_unchanged = c.unsubscribe.ensures.number_unchanged });
       so_far = (
         far.0 ++ plain_subscription e ∷ [],
         (

@@ -3,6 +3,7 @@ use Rattle.std.specs.Result.{is_ok}
 use Rattle.std.specs.declared.alloc.AllocError.{AllocError}
 use Rattle.sdb_session.specs.Listing.{PlainListing, TextPart}
 use Rattle.sdb_session.specs.ListingView.{plain_listing}
+use Rattle.sdb_session.specs.PassModel.{IsNextPass}
 use Rattle.sdb_session.specs.View.{WroteAnswers, has_ended, plain_session}
 use Rattle.sdb_wire.specs.Wire.{parse_message}
 use Rattle.sdb_session.proofs.ListingPartLemmas.{left_to_write}
@@ -12,8 +13,7 @@ abbrev pub invariant-loop-rest : goal.invariant-loop-rest
 invariant-loop-rest g l =
     let rest : Result (Option PlainListing) AllocError = Ok (option_map plain_listing l.rest) in
     record {
-      takes : g.D.Desk.accepts l.desk l.pass;
-      number : g.D.Desk.pass_number l.desk l.pass ≡ g.D.Desk.pass_number l.desk l.fn.pass;
+      pass : IsNextPass g.D.Desk.accepts g.D.Desk.pass_number l.desk l.fn.pass l.pass;
       alive : has_ended l.self ≡ false;
       request : is_ok (parse_message l.text).request ≡ true;
       outcome : TextPart (g.D.Desk.step l.desk) l.text l.table (g.D.Desk.pass_number l.desk l.fn.pass) l.fn.now (plain_session l.fn.self) l.fn.pass rest

@@ -3,7 +3,7 @@ use Rattle.json.specs.Token.{key, number, string}
 use Rattle.serde_json.specs.Data.{member, no_members, unsigned, number as number_data}
 use Rattle.sdb_value.specs.ToJson.{object_tail_tokens}
 use Rattle.sdb_value.specs.laws.PrefixLaws.{on_any_err, writes_prefix_append, writes_prefix_after_append}
-use Rattle.sdb_wire.proofs.write.write_tail.Goals as goal
+use Rattle.sdb_wire.proofs.operations.write_tail.Goals as goal
 
 pub returns-in_err-write_count-clause-err : goal.returns-in_err-write_count-clause-err
 returns-in_err-write_count-clause-err c = on_any_err _ (writes_prefix_append _ _ _ _ (rw (c.seq.ensures, c.arrived.ensures) at c.in_err-write_count.ensures.err))

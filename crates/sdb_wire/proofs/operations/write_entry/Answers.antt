@@ -7,7 +7,7 @@ use Rattle.sdb_oplog.specs.Plain.{PlainContent, PlainEntry, create, delete, edit
 use Rattle.sdb_value.specs.ToJson.{data_tokens, object_tail_tokens}
 use Rattle.sdb_value.specs.laws.PrefixLaws.{writes_prefix_of_rest}
 use Rattle.sdb_wire.specs.Answers.{create_data, entry_members, op_tail}
-use Rattle.sdb_wire.proofs.write.write_entry.Goals as goal
+use Rattle.sdb_wire.proofs.operations.write_entry.Goals as goal
 
 -- the content is before the tail
 content_adds : (e : PlainEntry) (m : PlainContent) → length (object_tail_tokens (op_tail e)) ≤ length (begin_object ∷ object_tail_tokens (entry_members e m))

@@ -7,7 +7,7 @@ use Rattle.sdb_value.specs.FromJson.{data_of_value}
 use Rattle.sdb_value.specs.View.{value_of}
 use Rattle.sdb_value.specs.laws.PrefixLaws.{on_any_err, writes_prefix_after_append, writes_prefix_after}
 use Rattle.sdb_wire.specs.Answers.{type_data}
-use Rattle.sdb_wire.proofs.write.write_create.Goals as goal
+use Rattle.sdb_wire.proofs.operations.write_create.Goals as goal
 
 pub returns-clause-tokens : goal.returns-clause-tokens
 returns-clause-tokens c =

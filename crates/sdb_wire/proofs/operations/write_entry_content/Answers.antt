@@ -8,7 +8,7 @@ use Rattle.sdb_value.specs.ToJson.{data_tokens, object_tail_tokens}
 use Rattle.sdb_value.specs.View.{value_of}
 use Rattle.sdb_value.specs.laws.PrefixLaws.{token_refused_prefix, writes_prefix_after_append}
 use Rattle.sdb_wire.specs.Answers.{create_data, op_tail}
-use Rattle.sdb_wire.proofs.write.write_entry_content.Goals as goal
+use Rattle.sdb_wire.proofs.operations.write_entry_content.Goals as goal
 
 pub returns-in_ok-key-in-Create-clause-err : goal.returns-in_ok-key-in-Create-clause-err
 returns-in_ok-key-in-Create-clause-err c =
