@@ -25,6 +25,8 @@ use Rattle.sdb_oplog.specs.contracts.entry.Fields as Fields
 use Rattle.sdb_oplog.specs.contracts.entry.Submission as Submission
 use Rattle.sdb_oplog.specs.contracts.entry.Submission.TheInside as submission
 use Rattle.sdb_oplog.specs.contracts.log.Log as Log
+use Rattle.sdb_oplog.specs.contracts.decided_log.DecidedLog as DecidedLog
+use Rattle.sdb_oplog.specs.contracts.decided_log.DecidedLog.TheInside as decided
 use Rattle.sdb_snapcache.specs.contracts.cache.Cache as Cache
 use Rattle.sdb_snapcache.specs.contracts.cache.Cache.TheInside as cache
 use Rattle.sdb_subscribe.specs.contracts.queue.Queue as Queue
@@ -150,8 +152,14 @@ cache-send = declared_send cache.the_type (search (sendable, crosses) depth 20, 
 pub Cache-send : IsSend Cache.the_row
 Cache-send = view_send _ _ _ _ _ cache-send
 
+decided-send : IsSend decided.the_row
+decided-send = declared_send decided.the_type (search (sendable, Log-send) depth 20, (search (sendable, crosses, Json-send) depth 20, tt))
+
+DecidedLog-send : IsSend DecidedLog.the_row
+DecidedLog-send = view_send _ _ _ _ _ decided-send
+
 document-send : IsSend document.the_row
-document-send = declared_send document.the_type (search (sendable, Log-send) depth 20, (search (sendable, crosses, Json-send) depth 20, (search (sendable, Cache-send) depth 20, tt)))
+document-send = declared_send document.the_type (search (sendable, DecidedLog-send) depth 20, (search (sendable, Cache-send) depth 20, tt))
 
 pub Document-send : IsSend Document.the_row
 Document-send = view_send _ _ _ _ _ document-send

@@ -10,9 +10,8 @@ use Rattle.sdb_desk.specs.Machine.{PlainAttempt, ReadOrOutOfMemory, is_nonempty,
 use Rattle.sdb_desk.specs.ShardView.{machine_of, logs_of, caches_of}
 use Rattle.sdb_submit.specs.Calls.{PlainCall, forget, CallAnswer, MachineStep}
 use Rattle.sdb_submit.specs.SubmitLoop.{CallRelation}
-use Rattle.sdb_striped_lock.specs.SeatSetModel.{ChangedOnlyAt}
 use Rattle.sdb_backend.specs.HistoryOrder.{Extends, share_of, AddsToShare}
-use Rattle.sdb_backend.specs.PassModel.{pass_number, PassHasSeen}
+use Rattle.sdb_backend.specs.PassModel.{pass_number, PassHasSeen, ChangesPassOnlyAt}
 use Rattle.sdb_backend.specs.declared.shard_value.Held.{Held}
 use Rattle.sdb_backend.specs.declared.pass.Pass.{Pass}
 
@@ -23,7 +22,7 @@ AnsweredAtExtension k c p a q =
     (x h new : Held) × PassHasSeen p k x × Extends (machine_of h.shard) (machine_of x.shard)
     × (share_of (pass_number p) (machine_of x.shard) ≡ share_of (pass_number p) (machine_of h.shard))
     × MachineStep (pass_number p) (machine_of h.shard) k c a (machine_of new.shard) × PassHasSeen q k new
-    × (pass_number q ≡ pass_number p) × ChangedOnlyAt (shard_of k) p.seats q.seats
+    × (pass_number q ≡ pass_number p) × ChangesPassOnlyAt (shard_of k) p q
 
 -- the calls of a pass at a key
 abbrev pub PassCalls : PlainKey → CallRelation Pass

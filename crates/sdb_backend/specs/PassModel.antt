@@ -2,7 +2,7 @@
 use Rattle.std.specs.Prelude.{◌≡◌, ℕ, ◌<◌, List, map, Contains}
 use Rattle.sdb_oplog.specs.Keys.{PlainKey, shard_of}
 use Rattle.sdb_desk.specs.ShardView.{machine_of}
-use Rattle.sdb_striped_lock.specs.SeatSetModel.{SeatSetBelongsTo, AreRootSeatsOf, SeatSetHasSeen, RootSeatsHaveSeen}
+use Rattle.sdb_striped_lock.specs.SeatSetModel.{SeatSetBelongsTo, AreRootSeatsOf, SeatSetHasSeen, RootSeatsHaveSeen, ChangedOnlyAt}
 use Rattle.sdb_striped_lock.specs.SeatSetModel as locks
 use Rattle.sdb_striped_lock.specs.declared.striped_lock.StripedLock.{StripedLock}
 use Rattle.sdb_backend.specs.HistoryOrder.{share_of, empty_share}
@@ -42,6 +42,10 @@ PassHasSeenShard p i x = SeatSetHasSeen p.seats i x
 
 abbrev pub PassHasSeen : Pass → PlainKey → Held → Type 0
 PassHasSeen p k x = PassHasSeenShard p (shard_of k) x
+
+-- the pass has observed nothing new of the other shards
+abbrev pub ChangesPassOnlyAt : ℕ → Pass → Pass → Type 0
+ChangesPassOnlyAt i before after = ChangedOnlyAt i before.seats after.seats
 
 -- in the observed history of each shard the pass's share is empty
 abbrev pub HasEmptyShare : Pass → Type 0

@@ -3,14 +3,13 @@ ghost use Rattle.std.specs.Prelude.{◌≡◌, ◌≢◌, ◌+◌, ◌<◌, ◌�
 ghost use Rattle.std.specs.List.Sorted.{IsPermutation};
 ghost use Rattle.sdb_growlock.specs.LockRule.{ForEach};
 ghost use Rattle.sdb_striped_lock.specs.Capacity.{HasCapacity};
-ghost use Rattle.sdb_striped_lock.specs.SeatSetModel.{ChangedOnlyAt};
 ghost use Rattle.sdb_oplog.specs.Keys.{plain_key, shard_of};
 ghost use Rattle.sdb_oplog.specs.declared.codes.Code.TheVariants.{E10, E11};
 ghost use Rattle.sdb_desk.specs.ShardView.{machine_of};
 ghost use Rattle.sdb_backend.specs.AuditModel.{ExtendsEveryPass};
 ghost use Rattle.sdb_backend.specs.CallAnswers.{ComparedAtKey};
 ghost use Rattle.sdb_backend.specs.HistoryOrder.{Extends, share_of};
-ghost use Rattle.sdb_backend.specs.PassModel.{pass_number, next_pass_number, IsPassOfBackend, IsHostOfBackend, HasEmptyShare, HasEmptyShares, HasSeenHostHistories, PassHasSeen, HasEveryPass};
+ghost use Rattle.sdb_backend.specs.PassModel.{pass_number, next_pass_number, IsPassOfBackend, IsHostOfBackend, HasEmptyShare, HasEmptyShares, HasSeenHostHistories, PassHasSeen, HasEveryPass, ChangesPassOnlyAt};
 ghost use Rattle.sdb_backend.specs.declared.shard_value.Held.{Held as HeldShard};
 ghost use Rattle.sdb_backend.specs.declared.backend.CloseError.TheVariants.{OutOfMemory, MissingPass};
 
@@ -125,7 +124,7 @@ impl<R: Drop> Backend<R> {
         ensures numbers_unchanged { (pass_number first.new ≡ pass_number first.old)
             × (pass_number second.new ≡ pass_number second.old) }
         ensures others_unchanged { let i = shard_of (plain_key key.now) in
-            ChangedOnlyAt i first.old.seats first.new.seats × ChangedOnlyAt i second.old.seats second.new.seats }
+            ChangesPassOnlyAt i first.old first.new × ChangesPassOnlyAt i second.old second.new }
         ensures compared { ComparedAtKey (plain_key key.now) first.old first.new second.old second.new }
     {
         self.locks
@@ -202,7 +201,7 @@ impl<R: Wait> Backend<R> {
             → J.precondition job (pass_number pass.old) v }
         ensures pass { IsPassOfBackend pass.new self.now }
         ensures number_unchanged { pass_number pass.new ≡ pass_number pass.old }
-        ensures others_unchanged { ChangedOnlyAt (shard_of (plain_key key.now)) pass.old.seats pass.new.seats }
+        ensures others_unchanged { ChangesPassOnlyAt (shard_of (plain_key key.now)) pass.old pass.new }
         ensures ran { (x v w : HeldShard) × PassHasSeen pass.old (plain_key key.now) x
             × Extends (machine_of v.shard) (machine_of x.shard)
             × (share_of (pass_number pass.old) (machine_of x.shard)
