@@ -11,7 +11,7 @@ from support.frames import CLOSE, HEAD, NO_STATUS, PING, TEXT, Fault, Full, fram
 
 SERVED = 64
 LONGEST = 1_048_576
-SILENCE, HANDSHAKE, DRIP, WRITE = 152, 13, 41, 30  # seconds after which a client is disconnected, as measured
+SILENCE, HANDSHAKE, DRIP, WRITE = 121, 11, 42, 11  # seconds after which a client is disconnected
 SLACK = 60  # additional seconds for a busy machine
 QUEUE = 3 * HANDSHAKE + SLACK  # seconds that a handshake may wait for those that stop
 BADLY_FORMED = "ERR_MESSAGE_BADLY_FORMED"

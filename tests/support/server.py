@@ -1,4 +1,5 @@
 """A server for a test. Its process and its port are released in each case, also if it doesn't start."""
+import os
 import pathlib
 import re
 import subprocess
@@ -23,10 +24,12 @@ def default_server():
 
 
 class Server:
-    """A server, on a free port if no address is given. With `dump` its standard output is its dump, which `stop` returns."""
+    """A server, on a free port if no address is given. With `dump` its standard output is its dump, which `stop` returns.
+
+    The variable SERVER_OPTIONS has further options of the program, as `--loops 1`."""
 
     def __init__(self, program, *options, address="127.0.0.1:0", dump=False):
-        command = [str(program), "--listen", address, *options]
+        command = [str(program), "--listen", address, *options, *os.environ.get("SERVER_OPTIONS", "").split()]
         if dump:
             command += ["--until-eof", "--dump"]
         pipes = {"stdin": subprocess.PIPE, "stdout": subprocess.PIPE, "stderr": subprocess.PIPE}

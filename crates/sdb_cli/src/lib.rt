@@ -22,26 +22,23 @@ pub const STATUS_FAULT: u8 = 1;
 pub const STATUS_USAGE: u8 = 2;
 
 /// Prints the outcome of a command line that starts no run, and returns the exit status. Help and
-/// the version go to standard output; a refusal goes to standard error as one line.
+/// the version go to standard output; a refusal goes to standard error.
 ///
 /// # Errors
 ///
 /// [`AllocError`] if an allocation fails or was the reason of `error`. The error of the stream if
-/// the line cannot be printed.
-pub fn print_help_or_error<R>(rt: &R, error: &Error) -> anyhow::Result<u8>
-where
-    R: AllocGlobal + Print + Eprint,
+/// the text cannot be printed.
+pub fn print_help_or_error<R: Print + Eprint>(rt: &R, error: &Error) -> anyhow::Result<u8>
     ensures { IfOk result (λ status. (status ≡ STATUS_OK) ⊎ (status ≡ STATUS_USAGE)) }
 {
     if let ErrorKind::OutOfMemory = error.kind() {
         return Err(AllocError.into());
     }
-    if error.exit_code() == 0 {
-        error.print(rt)?;
-        return Ok(STATUS_OK);
+    error.print(rt)?;
+    match error.exit_code() {
+        0 => Ok(STATUS_OK),
+        _ => Ok(STATUS_USAGE),
     }
-    let text = format!(in rt.alloc(); "{error}")?;
-    Ok(print_refusal(rt, text.as_str())?)
 }
 
 /// Prints the first line of `why` to standard error, and returns [`STATUS_USAGE`].

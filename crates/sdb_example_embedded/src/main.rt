@@ -4,8 +4,8 @@
 mod example_client;
 
 use sdb_backend::Backend;
+use sdb_event_loop::{LoopOptions, LoopServer, listen_on_loops};
 use sdb_projection::Table;
-use sdb_server::{ServerState, listen};
 use std::net::TcpListener;
 use std::sync::Arc;
 use std::thread;
@@ -16,9 +16,13 @@ fn main(rt: HostRuntime) -> anyhow::Result<()> {
     let address = listener.local_addr()?;
     let client = thread::spawn(&rt, move || example_client::run_client(rt, address))?;
     let (backend, mut host) = Backend::new(alloc, rt)?;
-    let state = ServerState::new(alloc, backend, Table::new(alloc))?;
-    let state = Arc::new(alloc, state)?;
-    listen(rt, alloc, &listener, &state, &mut host, Some(1))?;
+    let options = LoopOptions {
+        loops: 1,
+        clients: 64,
+    };
+    let state = LoopServer::new(alloc, backend, Table::new(alloc), options)?;
+    let state = Arc::new(alloc, state.with_session_limit(Some(1)))?;
+    listen_on_loops(rt, alloc, listener, &state, &mut host)?;
     client.join(&rt);
     Ok(())
 }

@@ -1,3 +1,1 @@
 pub mod LineSessionLemmas
-pub mod SendSync
-pub mod ListLemmas

@@ -1,9 +1,10 @@
 //! The command line and its options.
-use crate::clients::{StopCondition, serve_clients};
+use crate::clients::{ServeOptions, StopCondition, serve_clients};
 use crate::projection_option::{ProjectionOptionError, table_of};
 use clap::builder::ValueParser;
 use clap::{Arg, ArgAction, ArgGroup, ArgMatches, Command, Error};
 use sdb_cli::{STATUS_OK, exit_status, print_help_or_error, print_refusal};
+use sdb_event_loop::{LOOP_CLIENT_LIMIT, LOOP_LIMIT};
 use sdb_lines::{CountingReader, CountingWriter, RunFault};
 use sdb_projection::{Table, TableFault};
 use sdb_server::{LineSession, SystemClock, run_lines};
@@ -27,6 +28,8 @@ fn command<'a>(alloc: Global) -> Result<Command<'a>, AllocError> {
     let until_eof = until_eof_option(alloc)?;
     let dump = dump_option(alloc)?;
     let log = log_option(alloc)?;
+    let loops = loops_option(alloc)?;
+    let clients = clients_option(alloc)?;
     let job = job_group(alloc)?;
     Command::new(alloc, "sdb_server")
         .about("A ShareDB server for JSON documents")
@@ -37,6 +40,8 @@ fn command<'a>(alloc: Global) -> Result<Command<'a>, AllocError> {
         .arg(until_eof)?
         .arg(dump)?
         .arg(log)?
+        .arg(loops)?
+        .arg(clients)?
         .arg(projection_option(alloc))?
         .group(job)
 }
@@ -95,6 +100,26 @@ fn log_option<'a>(alloc: Global) -> Result<Arg<'a>, AllocError> {
     log.requires_arg("listen")?.conflicts_with("lines")
 }
 
+fn loops_option<'a>(alloc: Global) -> Result<Arg<'a>, AllocError> {
+    let loops = Arg::new(alloc, "loops")
+        .long("loops")
+        .value_name("N")
+        .help("With --listen, serve clients on N event loops; the default is half the processors")
+        .value_parser(ValueParser::unsigned(1, LOOP_LIMIT as u64))
+        .action(ArgAction::Set);
+    loops.requires_arg("listen")?.conflicts_with("lines")
+}
+
+fn clients_option<'a>(alloc: Global) -> Result<Arg<'a>, AllocError> {
+    let clients = Arg::new(alloc, "clients")
+        .long("clients")
+        .value_name("N")
+        .help("With --listen, serve at most N clients at once; the default is 64")
+        .value_parser(ValueParser::unsigned(1, LOOP_CLIENT_LIMIT as u64))
+        .action(ArgAction::Set);
+    clients.requires_arg("listen")?.conflicts_with("lines")
+}
+
 fn projection_option<'a>(alloc: Global) -> Arg<'a> {
     Arg::new(alloc, "projection")
         .long("projection")
@@ -120,8 +145,8 @@ pub enum RunMode {
         address: SocketAddr,
         /// The condition that ends the run.
         until: StopCondition,
-        /// Whether the start and the end of each session are logged.
-        is_logging: bool,
+        /// How clients are served.
+        options: ServeOptions,
     },
 }
 
@@ -164,8 +189,17 @@ fn parse_job(matches: &ArgMatches<'_>) -> Option<RunMode> {
     Some(RunMode::Listen {
         address: address.parse().ok()?,
         until: parse_stop_condition(matches),
-        is_logging: matches.get_flag("log"),
+        options: ServeOptions {
+            loops: parse_number(matches, "loops"),
+            clients: parse_number(matches, "clients"),
+            is_logging: matches.get_flag("log"),
+        },
     })
+}
+
+fn parse_number(matches: &ArgMatches<'_>, name: &str) -> Option<usize> {
+    let number = matches.get_one::<u64>(name)?;
+    Some(number as usize)
 }
 
 fn parse_stop_condition(matches: &ArgMatches<'_>) -> StopCondition {
@@ -234,8 +268,8 @@ where
         RunMode::Listen {
             address,
             until,
-            is_logging,
-        } => serve_clients(rt, address, until, is_logging, table),
+            options,
+        } => serve_clients(rt, address, until, options, table),
     }
 }
 

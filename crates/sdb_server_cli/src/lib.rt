@@ -3,9 +3,11 @@
 #![tactic(auto)]
 
 mod clients;
+mod close;
 mod command_line;
 mod projection_option;
 
-pub use clients::{StopCondition, print_close, serve_at, serve_until_end};
+pub use clients::{ServeOptions, StopCondition, serve_at, serve_until_end};
+pub use close::print_close;
 pub use command_line::{Options, ParsedArgs, RunMode, answer_input, parse_options, parse_run, run};
 pub use projection_option::{ProjectionOptionError, table_of};

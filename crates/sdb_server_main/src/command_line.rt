@@ -4,8 +4,8 @@ use sdb_cli::{STATUS_FAULT, STATUS_OK, STATUS_USAGE};
 use sdb_projection::{Projection, Table, TableFault};
 use sdb_server::ListClock;
 use sdb_server_cli::{
-    Options, ParsedArgs, ProjectionOptionError, RunMode, StopCondition, answer_input,
-    parse_options, parse_run, run, serve_at, serve_until_end, table_of,
+    Options, ParsedArgs, ProjectionOptionError, RunMode, ServeOptions, StopCondition, answer_input,
+    parse_options, parse_run, run, serve_until_end, table_of,
 };
 use std::alloc::Global;
 use std::fmt::Display;
@@ -42,8 +42,8 @@ fn parse_listen(rt: &impl Abort, alloc: Global, line: &str) -> Option<(u16, Stop
         RunMode::Listen {
             address,
             until,
-            is_logging,
-        } => Some((address.port(), until, is_logging)),
+            options,
+        } => Some((address.port(), until, options.is_logging)),
         RunMode::Lines => None,
     }
 }
@@ -92,6 +92,45 @@ fn addresses_and_stop_conditions_are_parsed(rt: HostRuntime) {
         ),
     ] {
         assert!(rt; parse_listen(&rt, rt.alloc(), line) == wanted, "{line}");
+    }
+}
+
+// Returns the numbers of loops and clients of a command line.
+fn parse_loops(
+    rt: &impl Abort,
+    alloc: Global,
+    line: &str,
+) -> Option<(Option<usize>, Option<usize>)> {
+    match parse(rt, alloc, line)?.job? {
+        RunMode::Listen { options, .. } => Some((options.loops, options.clients)),
+        RunMode::Lines => None,
+    }
+}
+
+#[test]
+fn loops_are_parsed(rt: HostRuntime) {
+    for (line, wanted) in [
+        ("sdb_server --listen 127.0.0.1:0", Some((None, None))),
+        (
+            "sdb_server --listen 127.0.0.1:0 --loops 2",
+            Some((Some(2), None)),
+        ),
+        (
+            "sdb_server --listen 127.0.0.1:0 --loops 64 --clients 16384",
+            Some((Some(64), Some(16_384))),
+        ),
+        (
+            "sdb_server --listen 127.0.0.1:0 --clients 8 --connections 1",
+            Some((None, Some(8))),
+        ),
+        ("sdb_server --listen 127.0.0.1:0 --loops 0", None),
+        ("sdb_server --listen 127.0.0.1:0 --loops 65", None),
+        ("sdb_server --listen 127.0.0.1:0 --clients 0", None),
+        ("sdb_server --listen 127.0.0.1:0 --clients 16385", None),
+        ("sdb_server --lines --loops 1", None),
+        ("sdb_server --lines --clients 1", None),
+    ] {
+        assert!(rt; parse_loops(&rt, rt.alloc(), line) == wanted, "{line}");
     }
 }
 
@@ -172,10 +211,10 @@ fn run_without_job(rt: &impl Abort, alloc: Global, line: &str) -> (Option<u8>, S
     (status, terminal.out.into_inner(), terminal.err.into_inner())
 }
 
-// Each refusal is one line on standard error. The options are checked first, then the address, then
-// the projections in order.
+// Each refusal is on standard error: that of an option names the help, any other is one line. The
+// options are checked first, then the address, then the projections in order.
 #[test]
-fn a_refused_command_line_is_one_line_on_standard_error(rt: HostRuntime) {
+fn a_refused_command_line_is_printed_on_standard_error(rt: HostRuntime) {
     for (line, expected) in [
         (
             "sdb_server --listen nowhere --projection t",
@@ -212,9 +251,11 @@ fn a_refused_command_line_is_one_line_on_standard_error(rt: HostRuntime) {
         ("sdb_server more", ""),
     ] {
         let (status, out, err) = run_without_job(&rt, rt.alloc(), line);
-        let is_one_line = err.as_str().lines().count() == 1 && err.as_str().starts_with(expected);
+        let text = err.as_str();
+        let names_help = text.contains("For more information, try '--help'.");
+        assert!(rt; (text.lines().count() == 1) != names_help, "{line}");
         assert!(rt;
-            status == Some(STATUS_USAGE) && out.is_empty() && is_one_line,
+            status == Some(STATUS_USAGE) && out.is_empty() && text.starts_with(expected),
             "{line}"
         );
     }
@@ -254,24 +295,15 @@ const TWO_LINES: &[u8] = b"one\ntwo\n";
 
 // A server for 0 connections, and one whose input has ended.
 #[test]
-fn a_server_ends_at_its_stop_condition(rt: HostRuntime) {
+fn a_server_ends_at_the_end_of_its_input(rt: HostRuntime) {
     let listener = TcpListener::bind(&rt, "127.0.0.1:0").expect(&rt, "a port");
-    let status = serve_at(
-        rt,
-        &listener,
-        StopCondition::Served(0),
-        false,
-        Table::new(rt.alloc()),
-    );
-    assert!(rt; status.ok() == Some(STATUS_OK));
-    let status = serve_until_end(
-        rt,
-        &listener,
-        TWO_LINES,
-        false,
-        true,
-        Table::new(rt.alloc()),
-    );
+    let options = ServeOptions {
+        loops: None,
+        clients: None,
+        is_logging: false,
+    };
+    let table = Table::new(rt.alloc());
+    let status = serve_until_end(rt, listener, TWO_LINES, options, true, table);
     assert!(rt; status.ok() == Some(STATUS_OK));
 }
 

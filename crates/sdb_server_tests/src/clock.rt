@@ -1,5 +1,5 @@
 //! Tests of the system's clock, read from a time that the test sets.
-use sdb_server::{Clock, SystemClock};
+use sdb_server::{Clock, SystemClock, moment_since};
 use std::time::Duration;
 use std::{io, time};
 
@@ -50,5 +50,28 @@ fn the_clock_counts_whole_milliseconds(rt: HostRuntime) {
         ),
     ] {
         assert!(rt; milliseconds_at(time) == wanted, "{wanted}");
+    }
+}
+
+// The system clock counts milliseconds since the beginning of 1970.
+#[test]
+fn the_system_clock_counts_milliseconds_since_1970(rt: HostRuntime) {
+    let milliseconds = SystemClock::new(&rt).now().milliseconds();
+    assert!(rt; milliseconds > 1_700_000_000_000 && milliseconds < 17_000_000_000_000);
+}
+
+// The moment of a time since 1970 is its whole milliseconds, within the range of moments.
+#[test]
+fn a_time_since_1970_has_a_moment(rt: HostRuntime) {
+    for (elapsed, milliseconds) in [
+        (None, 0),
+        (Some(Duration::from_micros(1_999)), 1),
+        (
+            Some(Duration::from_millis(1_700_000_000_123)),
+            1_700_000_000_123,
+        ),
+        (Some(Duration::MAX), 9_007_199_254_740_991),
+    ] {
+        assert!(rt; moment_since(elapsed).milliseconds() == milliseconds);
     }
 }

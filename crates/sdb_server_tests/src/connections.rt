@@ -1,34 +1,29 @@
-//! Tests with clients over sockets: two or more clients, large messages, requests without a
-//! handshake, and the end of the server.
+//! Tests with clients over sockets: two or more clients, large messages, and requests without a
+//! handshake.
 ghost use Rattle.std.specs.Prelude.{IfOk};
 ghost use Rattle.sdb_backend.specs.PassModel.{IsHostOfBackend};
 ghost use Rattle.sdb_backend.specs.declared.pass.Host.{Host as HostState};
-ghost use Rattle.sdb_server.specs.PassModel.{IsHostOfServer};
+ghost use Rattle.sdb_event_loop.specs.LoopModel.{IsHostOfLoops};
 
 use crate::clients::{
     Client, FIRST_INIT, connect_tcp, exchange, expect_close, expect_text, open_session,
     try_open_session,
 };
 use crate::nesting::nest_deeply;
-use crate::wakeups::{
-    DEFAULT_WAIT_MS, LONG_WAIT_MS, SHORT_WAIT_MS, assert_soon, end_after_a_message, now,
-    receive_at_once, receive_ping,
-};
+use crate::wakeups::{end_after_a_message, receive_at_once};
 use sdb_backend::Backend;
-use sdb_oplog::Log;
+use sdb_event_loop::{DEFAULT_LOOP_CLIENTS, LoopOptions, LoopServer, listen_on_loops};
 use sdb_projection::Table;
-use sdb_server::{ServerState, listen, listen_until_stopped, set_socket_options};
 use std::alloc::{AllocError, Global};
 use std::io::Write;
 use std::net::{Net, Shutdown, SocketAddr, TcpListener, TcpStream};
 use std::process::Abort;
 use std::sync::atomic::{AtomicBool, Ordering};
 use std::sync::{Arc, Wait};
-use std::test::Fail;
 use std::thread::Threads;
-use std::time::{Clock, Duration};
+use std::time::Clock;
 use std::{io, thread};
-use tungstenite::CloseCode;
+use tungstenite::{CloseCode, Message};
 
 // The number of clients served at once, and the number of connections in all.
 const SLOTS: u64 = 64;
@@ -48,36 +43,34 @@ pub(crate) const FETCHED: &str = r#"{"a":"f","c":"b","d":"1","data":{"type":null
 const BADLY_FORMED: &str =
     r#"{"error":{"code":"ERR_MESSAGE_BADLY_FORMED","message":"message is badly formed"}}"#;
 
-// Creates the state of a server without projections, with this maximum wait of a session in
-// milliseconds.
+// Creates the state of a server of one loop without projections, which stops after so many sessions.
 fn server<R: Drop>(
     alloc: Global,
     backend: Backend<R>,
-    is_logging: bool,
-    longest_wait: u64,
-) -> Result<Arc<ServerState<R>, Global>, AllocError>
-    ensures { IfOk result (λ s. (h : HostState) → IsHostOfBackend h backend → IsHostOfServer h s.value) }
+    sessions: u64,
+) -> Result<Arc<LoopServer<R>, Global>, AllocError>
+    ensures { IfOk result (λ s. (h : HostState) → IsHostOfBackend h backend → IsHostOfLoops h s.value) }
 {
-    let logging = ServerState::new(alloc, backend, Table::new(alloc))?.with_log(is_logging);
-    let state = logging.with_longest_wait(Duration::from_millis(longest_wait));
-    Ok(Arc::new(alloc, state)?)
+    let options = LoopOptions {
+        loops: 1,
+        clients: DEFAULT_LOOP_CLIENTS,
+    };
+    let state = LoopServer::new(alloc, backend, Table::new(alloc), options)?;
+    let limited = state.with_session_limit(Some(sessions));
+    Ok(Arc::new(alloc, limited)?)
 }
 
-// Serves so many connections, with this maximum wait of a session in milliseconds.
-fn serve_clients<R>(
-    rt: R,
-    listener: &TcpListener,
-    connections: u64,
-    longest_wait: u64,
-) -> io::Result<()>
+// Serves so many sessions.
+fn serve_clients<R>(rt: R, listener: TcpListener, sessions: u64) -> io::Result<()>
 where
     R: AllocGlobal + Eprint + Net<Listener = TcpListener, Stream = TcpStream>,
     R: Threads + Wait + Clock + Drop + Copy + Send + Sync + 'static,
 {
     let alloc = rt.alloc();
     let (backend, mut host) = Backend::new(alloc, rt)?;
-    let state = server(alloc, backend, false, longest_wait)?;
-    listen(rt, alloc, listener, &state, &mut host, Some(connections))
+    let state = server(alloc, backend, sessions)?;
+    listen_on_loops(rt, alloc, listener, &state, &mut host)?;
+    Ok(())
 }
 
 const INIT_PREFIX: &str = r#"{"a":"init","id":"s"#;
@@ -97,9 +90,9 @@ const CREATE: &str =
 
 const CREATED: &str = r#"{"a":"op","c":"b","d":"1","seq":1,"src":"x","v":0}"#;
 
-const SUBSCRIBE: &str = r#"{"a":"s","c":"b","d":"1","v":null}"#;
+pub(crate) const SUBSCRIBE: &str = r#"{"a":"s","c":"b","d":"1","v":null}"#;
 
-const SUBSCRIBED: &str = r#"{"a":"s","c":"b","d":"1","data":{"data":{"n":1},"v":1}}"#;
+pub(crate) const SUBSCRIBED: &str = r#"{"a":"s","c":"b","d":"1","data":{"data":{"n":1},"v":1}}"#;
 
 pub(crate) const EDIT: &str =
     r#"{"a":"op","c":"b","d":"1","v":1,"src":"y","seq":1,"op":[{"p":["n"],"na":1}]}"#;
@@ -120,6 +113,11 @@ pub(crate) fn open_subscriber(
     let texts = [(CREATE, CREATED), (SUBSCRIBE, SUBSCRIBED)];
     exchange(abort, alloc, &mut client, &texts);
     client
+}
+
+// Creates the document.
+pub(crate) fn create_document(abort: &impl Abort, alloc: Global, client: &mut Client) {
+    exchange(abort, alloc, client, &[(CREATE, CREATED)]);
 }
 
 // Connects the second client, which edits the document of the subscriber and disconnects.
@@ -237,6 +235,15 @@ fn send_large_messages(abort: &impl Abort, rt: HostRuntime, alloc: Global, addre
     expect_close(abort, &mut client, CloseCode::Size);
 }
 
+// A binary message is refused, and the next text is answered.
+fn send_binary(abort: &impl Abort, rt: HostRuntime, alloc: Global, address: SocketAddr) {
+    let mut client = open_session(abort, rt, alloc, address, FIRST_INIT);
+    let message = Message::binary(alloc, FETCH.as_bytes()).ok();
+    assert!(abort; client.send(message.expect(abort, "a message")).is_ok());
+    expect_text(abort, &mut client, BADLY_FORMED);
+    exchange(abort, alloc, &mut client, &[(FETCH, FETCHED)]);
+}
+
 // Sends requests to a server that must not end meanwhile.
 fn send_many_requests(
     abort: &impl Abort,
@@ -264,7 +271,7 @@ fn plain_answer(abort: &impl Abort, rt: HostRuntime, alloc: Global, address: Soc
 }
 
 // The response is 426 with a text about the server, and the connection is then closed.
-fn expect_upgrade_required(
+pub(crate) fn expect_upgrade_required(
     abort: &impl Abort,
     rt: HostRuntime,
     alloc: Global,
@@ -301,10 +308,10 @@ enum ClientScenario {
     EditAndSubscribe,
     FillAllSlots,
     SendLargeMessages,
+    SendBinary,
     SendManyRequests,
     ConnectWithoutHandshake,
     ReceiveAtOnce,
-    ReceivePing,
     EndAfterAMessage,
     NestDeeply,
 }
@@ -330,6 +337,7 @@ impl ClientScenario {
             }
             ClientScenario::FillAllSlots => fill_all_slots(abort, rt, alloc, address),
             ClientScenario::SendLargeMessages => send_large_messages(abort, rt, alloc, address),
+            ClientScenario::SendBinary => send_binary(abort, rt, alloc, address),
             ClientScenario::SendManyRequests => send_many_requests(
                 abort, rt, alloc, address, has_ended,
             ),
@@ -337,33 +345,28 @@ impl ClientScenario {
                 abort, rt, alloc, address,
             ),
             ClientScenario::ReceiveAtOnce => receive_at_once(abort, rt, alloc, address),
-            ClientScenario::ReceivePing => receive_ping(abort, rt, alloc, address),
             ClientScenario::EndAfterAMessage => end_after_a_message(abort, rt, alloc, address),
             ClientScenario::NestDeeply => nest_deeply(abort, rt, alloc, address),
         }
     }
 }
 
-// Covers edits by two clients, the limit of 64 clients and the reuse of slots. Also covers messages
-// of 1,048,576 bytes and of one byte more, the end of the server, and silent clients, which receive
-// operations at once, and pings.
+// Covers edits by two clients, the limit of 64 clients and the reuse of their places. Also covers
+// messages of 1,048,576 bytes and of one byte more, binary messages, the end of the server, and
+// silent clients, which receive operations at once.
 #[test]
 fn clients_are_served_over_sockets(rt: HostRuntime) {
     let alloc = rt.alloc();
-    for (scenario, connections, longest_wait) in [
-        (ClientScenario::EditAndSubscribe, 2, DEFAULT_WAIT_MS),
-        (
-            ClientScenario::FillAllSlots,
-            CONNECTION_COUNT,
-            DEFAULT_WAIT_MS,
-        ),
-        (ClientScenario::SendLargeMessages, 1, DEFAULT_WAIT_MS),
-        (ClientScenario::SendManyRequests, 1, DEFAULT_WAIT_MS),
-        (ClientScenario::ConnectWithoutHandshake, 1, DEFAULT_WAIT_MS),
-        (ClientScenario::ReceiveAtOnce, 2, LONG_WAIT_MS),
-        (ClientScenario::ReceivePing, 1, SHORT_WAIT_MS),
-        (ClientScenario::EndAfterAMessage, 1, LONG_WAIT_MS),
-        (ClientScenario::NestDeeply, 1, DEFAULT_WAIT_MS),
+    for (scenario, sessions) in [
+        (ClientScenario::EditAndSubscribe, 2),
+        (ClientScenario::FillAllSlots, CONNECTION_COUNT),
+        (ClientScenario::SendLargeMessages, 1),
+        (ClientScenario::SendBinary, 1),
+        (ClientScenario::SendManyRequests, 1),
+        (ClientScenario::ConnectWithoutHandshake, 1),
+        (ClientScenario::ReceiveAtOnce, 2),
+        (ClientScenario::EndAfterAMessage, 1),
+        (ClientScenario::NestDeeply, 1),
     ] {
         let listener = TcpListener::bind(&rt, "127.0.0.1:0").expect(&rt, "a port");
         let address = listener.local_addr().expect(&rt, "an address");
@@ -371,66 +374,8 @@ fn clients_are_served_over_sockets(rt: HostRuntime) {
         let seen = Arc::try_clone(&ended).expect(&rt, "one more");
         let clients = thread::spawn(&rt, move || scenario.run(&rt, rt, alloc, address, &seen));
         let clients = clients.expect(&rt, "a thread");
-        let served = serve_clients(rt, &listener, connections, longest_wait);
-        assert!(rt; served.is_ok());
+        assert!(rt; serve_clients(rt, listener, sessions).is_ok());
         ended.store(true, Ordering::SeqCst);
         clients.join(&rt);
     }
-}
-
-// Stops a server with one silent client and one subscriber, without a wait for either.
-fn stop_server<R: Drop>(
-    abort: &impl Abort,
-    rt: HostRuntime,
-    alloc: Global,
-    address: SocketAddr,
-    state: &ServerState<R>,
-) {
-    let silent = connect_tcp(abort, rt, address);
-    let mut subscriber = open_subscriber(abort, rt, alloc, address);
-    edit_as_second_client(abort, rt, alloc, address, &mut subscriber);
-    let began = now(abort, rt);
-    state.stop();
-    expect_close(abort, &mut subscriber, CloseCode::Away);
-    assert_soon(abort, rt, began);
-    drop(silent);
-}
-
-// A stopped server returns all passes, leaves no queue and keeps the stored operations.
-#[test]
-fn a_stopped_server_returns_its_passes_and_entries(rt: HostRuntime) -> Result<(), Fail> {
-    let alloc = rt.alloc();
-    let listener = TcpListener::bind(&rt, "127.0.0.1:0")?;
-    let address = listener.local_addr()?;
-    let (backend, mut host) = Backend::new(alloc, rt)?;
-    let state = server(alloc, backend, true, LONG_WAIT_MS)?;
-    let theirs = Arc::try_clone(&state)?;
-    let clients = thread::spawn(&rt, move || stop_server(&rt, rt, alloc, address, &theirs))?;
-    let passes = listen_until_stopped(rt, alloc, &listener, &state, &mut host)?;
-    clients.join(&rt);
-    let passes_back = passes.len();
-    let Ok(state) = Arc::try_unwrap(state) else {
-        return Err("sessions are still open".into());
-    };
-    let Ok(audit) = state.into_backend().close(host, passes) else {
-        return Err("not closed".into());
-    };
-    let keys = audit.documents()?;
-    let length = keys.first().and_then(|key| audit.log(key)).map(Log::len);
-    assert!(rt; (passes_back, keys.len(), audit.queues(), length) == (2, 1, 0, Some(2)));
-    Ok(())
-}
-
-#[test]
-fn sockets_have_their_timeouts(rt: HostRuntime) {
-    let listener = TcpListener::bind(&rt, "127.0.0.1:0").expect(&rt, "a port");
-    let address = listener.local_addr().expect(&rt, "an address");
-    let stream = TcpStream::connect(&rt, address).expect(&rt, "a connection");
-    assert!(rt; set_socket_options(&stream).is_ok() && stream.nodelay().ok() == Some(true));
-    let read = stream.read_timeout().ok();
-    let write = stream.write_timeout().ok();
-    assert!(rt;
-        read == Some(Some(Duration::from_millis(20)))
-            && write == Some(Some(Duration::from_secs(10)))
-    );
 }

@@ -13,12 +13,10 @@ mod connections;
 #[cfg(test)]
 mod dialogues;
 #[cfg(test)]
-mod failing_streams;
-#[cfg(test)]
 mod line_session;
+#[cfg(test)]
+mod loops;
 #[cfg(test)]
 mod nesting;
 #[cfg(test)]
 mod wakeups;
-#[cfg(test)]
-mod websocket_session;

@@ -1,21 +1,12 @@
-//! Tests of the wait of a session, as a client observes it.
+//! Tests of silent clients, and of a client that ends after a message.
 use crate::clients::{
-    FIRST_INIT, connect_websocket, exchange, expect_text, next_message, open_session, send_text,
+    FIRST_INIT, connect_websocket, exchange, expect_text, open_session, send_text,
 };
 use crate::connections::{EDIT, EDITED, FETCH, FETCHED, OP_MESSAGE, SECOND_INIT, open_subscriber};
 use std::alloc::Global;
 use std::net::{Shutdown, SocketAddr};
 use std::process::Abort;
 use std::time::{Duration, Instant};
-use tungstenite::Message;
-
-// The maximum wait of a session in milliseconds: one long enough to be observed, the default, and a
-// short one.
-pub(crate) const LONG_WAIT_MS: u64 = 10_000;
-
-pub(crate) const DEFAULT_WAIT_MS: u64 = 20;
-
-pub(crate) const SHORT_WAIT_MS: u64 = 1;
 
 // The time within which a session does all that needs no wait.
 const SOON_MS: u64 = 4_000;
@@ -52,17 +43,6 @@ pub(crate) fn receive_at_once(
     exchange(abort, alloc, &mut editor, &[(SECOND_EDIT, SECOND_EDITED)]);
     expect_text(abort, &mut subscriber, SECOND_OP_MESSAGE);
     assert_soon(abort, rt, began);
-}
-
-// A silent client receives a ping.
-pub(crate) fn receive_ping(
-    abort: &impl Abort,
-    rt: HostRuntime,
-    alloc: Global,
-    address: SocketAddr,
-) {
-    let mut client = open_session(abort, rt, alloc, address, FIRST_INIT);
-    assert!(abort; matches!(next_message(abort, &mut client), Message::Ping(_)));
 }
 
 // A client that sends a text and closes its sending side at once receives the answer, and its

@@ -1,4 +1,4 @@
 use Rattle.sdb_server_cli.proofs.clients.serve_count.Goals as goal
 
-pub listen-requires-after_bounds : goal.listen-requires-after_bounds
-listen-requires-after_bounds g c κs within = c.in_ok-state.ensures c.in_ok-backend.host c.in_ok-backend.ensures.host
+pub listen_on_loops-requires-after_bounds : goal.listen_on_loops-requires-after_bounds
+listen_on_loops-requires-after_bounds g c κs within = c.in_ok-state.ensures c.in_ok-backend.host c.in_ok-backend.ensures.host

@@ -3,23 +3,23 @@ use Rattle.std.proofs.Common.{sym, ap, ◌∙◌, subst}
 use Rattle.std.proofs.Crossing.{crosses}
 use Rattle.sdb_backend.specs.PassModel.{IsHostOfBackend, IsPassOfBackend}
 use Rattle.sdb_growlock.specs.LockRule.{ForEach}
-use Rattle.sdb_server.proofs.SendSync.{ServerState-send, ServerState-sync}
+use Rattle.sdb_event_loop.proofs.SendSync.{LoopServer-send, LoopServer-sync}
 use Rattle.sdb_server_cli.proofs.clients.serve_until_end.Goals as goal
 
-pub listen_until_stopped-requires-after_bounds : goal.listen_until_stopped-requires-after_bounds
-listen_until_stopped-requires-after_bounds g c κs within = c.in_ok-state.ensures c.in_ok-backend.host c.in_ok-backend.ensures.host
+pub listen_on_loops-requires-after_bounds : goal.listen_on_loops-requires-after_bounds
+listen_on_loops-requires-after_bounds g c κs within = c.in_ok-state.ensures c.in_ok-backend.host c.in_ok-backend.ensures.host
 
 pub spawn-requires-send-F : goal.spawn-requires-send-F
 spawn-requires-send-F g c κs within =
     let send = c.type_bounds.send-R in
     let sync = c.type_bounds.sync-R in
     let input = c.type_bounds.send-I in
-    search (ServerState-send, ServerState-sync, sendable, crosses) depth 40
+    search (LoopServer-send, LoopServer-sync, sendable, crosses) depth 40
 
 pub close-requires-clause-host : goal.close-requires-clause-host
 close-requires-clause-host g c =
     let same = c.into_backend.ensures ∙ ap (λ s. s.backend) c.in-Ok.ensures.ok in
-    subst (λ b. IsHostOfBackend c.listen_until_stopped.new.host b) (sym same) c.in_ok-passes.ensures.host
+    subst (λ b. IsHostOfBackend c.listen_on_loops.new.host b) (sym same) c.in_ok-passes.ensures.host
 
 pub close-requires-clause-passes : goal.close-requires-clause-passes
 close-requires-clause-passes g c =

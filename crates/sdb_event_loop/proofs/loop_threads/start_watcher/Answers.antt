@@ -1,0 +1,11 @@
+use denote.Param.Send.{sendable}
+use Rattle.std.proofs.Crossing.{crosses}
+use Rattle.sdb_event_loop.proofs.SendSync.{LoopSlots-send, LoopSlots-sync}
+use Rattle.sdb_event_loop.proofs.loop_threads.start_watcher.Goals as goal
+
+pub spawn-requires-send-F : goal.spawn-requires-send-F
+spawn-requires-send-F g c κs within =
+    let send = c.type_bounds.send-R in
+    let sync = c.type_bounds.sync-R in
+    let brand_send = c.type_bounds.send-B in
+    search (LoopSlots-send, LoopSlots-sync, sendable, crosses) depth 40

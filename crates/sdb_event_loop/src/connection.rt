@@ -1,0 +1,299 @@
+//! Clients that are served, and their sessions.
+ghost use Rattle.std.specs.Prelude.{◌≡◌};
+ghost use Rattle.sdb_backend.specs.PassModel.{pass_number};
+ghost use Rattle.sdb_event_loop.specs.PassModel.{KeepsPass};
+
+use crate::closing::{ClosingConnection, Progress, write_close};
+use crate::deadlines::{Deadlines, DueAction};
+use crate::document_group::DocumentGroup;
+use crate::frame_sink::FrameSink;
+use crate::link::Link;
+use crate::log::SessionReport;
+use crate::loop_buffers::{LoopOutput, LoopTime};
+use crate::loop_context::LoopContext;
+use crate::loop_pass::{LoopPass, PassBrand};
+use crate::session_end::{SessionEnd, configuration};
+use mio::net::TcpStream as MioStream;
+use sdb_session::{Listing, Session};
+use std::alloc::{AllocError, Global};
+use std::sync::Wait;
+use websocket::protocol::{CloseCode, Message, NoMask, Role, WebSocketContext};
+
+/// A client after its handshake: its socket, its pass, its session, and what is left of a message.
+#[derive(Drop)]
+pub(crate) struct Connection<B: PassBrand> {
+    pub(crate) alloc: Global,
+    pub(crate) link: Link,
+    pub(crate) pass: LoopPass<B>,
+    pub(crate) session: Session,
+    pub(crate) websocket: WebSocketContext,
+    // Received bytes that weren't answered.
+    pub(crate) partial: Vec<u8>,
+    // Whether they may begin with a complete frame.
+    pub(crate) has_frames: bool,
+    // Whether a fragment of a message was received, but not the last one.
+    pub(crate) is_in_message: bool,
+    pub(crate) deadlines: Deadlines,
+    pub(crate) groups: Vec<DocumentGroup>,
+    pub(crate) messages: u64,
+    pub(crate) operations: u64,
+    // What is left of the listing that answers the last message. Until it is sent, no message is
+    // answered and no queue is read.
+    pub(crate) listing: Option<Listing>,
+    // Whether the queues weren't read because of a listing.
+    pub(crate) is_deferred: bool,
+    /// Whether the loop reads from it next.
+    pub(crate) is_listed: bool,
+    /// Whether the loop reads its queues next.
+    pub(crate) is_lagging: bool,
+}
+
+/// What is left of a client after its session.
+#[derive(Drop)]
+pub(crate) struct EndedConnection<B: PassBrand> {
+    pub(crate) pass: LoopPass<B>,
+    pub(crate) report: SessionReport,
+    /// The connection, if it isn't lost.
+    pub(crate) closing: Option<ClosingConnection>,
+    /// The groups that the session was subscribed to.
+    pub(crate) groups: Vec<DocumentGroup>,
+}
+
+/// Creates the session of the pass with this number. Its source is `s` followed by the number.
+pub(crate) fn session_of(alloc: Global, number: u64) -> Result<Session, AllocError> {
+    let source = format!(in alloc; "s{number}")?;
+    Ok(Session::new(alloc, source))
+}
+
+// Returns the session's source as JSON text, cut out of its opening message. Returns `None` if an
+// allocation fails.
+fn source_of(alloc: Global, session: &Session) -> Option<String> {
+    let opening = session.opening().ok()?;
+    let (_, rest) = opening.as_str().split_once(r#""id":"#)?;
+    let (source, _) = rest.split_once(r#","protocol":"#)?;
+    String::from_str(alloc, source).ok()
+}
+
+// Returns the context if it reads more frames.
+fn readable_context(websocket: WebSocketContext) -> Option<WebSocketContext> {
+    if websocket.can_read() {
+        Some(websocket)
+    } else {
+        None
+    }
+}
+
+impl<B: PassBrand> Connection<B> {
+    /// Creates the connection of a session that hasn't sent its opening message.
+    pub(crate) fn new(
+        alloc: Global,
+        stream: MioStream,
+        pass: LoopPass<B>,
+        session: Session,
+        time: LoopTime,
+    ) -> Connection<B>
+        ensures { pass_number result.pass.pass ≡ pass_number pass.pass }
+    {
+        Connection {
+            alloc,
+            link: Link::new(alloc, stream),
+            pass,
+            session,
+            websocket: WebSocketContext::new(alloc, Role::Server, configuration()),
+            partial: Vec::new(alloc),
+            has_frames: false,
+            is_in_message: false,
+            deadlines: Deadlines::new(time.second),
+            groups: Vec::new(alloc),
+            messages: 0,
+            operations: 0,
+            listing: None,
+            is_deferred: false,
+            is_listed: false,
+            is_lagging: false,
+        }
+    }
+
+    /// Returns the stream and the pass of a session that was not opened.
+    pub(crate) fn into_parts(self) -> (MioStream, LoopPass<B>)
+        ensures { pass_number result.1.pass ≡ pass_number self.pass.pass }
+    {
+        let Connection { link, pass, .. } = self;
+        (link.into_stream(), pass)
+    }
+
+    /// Sends the opening message.
+    pub(crate) fn open(&mut self, time: LoopTime, output: &mut LoopOutput) -> Result<(), SessionEnd>
+        ensures { pass_number self.new.pass.pass ≡ pass_number self.old.pass.pass }
+    {
+        let mut sink = FrameSink::new(&mut self.websocket, &mut output.bytes);
+        let opened = self.session.opening_to(&mut sink);
+        opened?;
+        self.send(time, output)
+    }
+
+    /// Records that input waits, or that the client has closed its sending side.
+    pub(crate) fn record_readable(&mut self, is_closed: bool)
+        ensures { pass_number self.new.pass.pass ≡ pass_number self.old.pass.pass }
+    {
+        self.link.record_readable(is_closed);
+    }
+
+    /// Writes pending output. Returns whether some was pending and none is left.
+    pub(crate) fn resume(&mut self, time: LoopTime) -> Result<bool, SessionEnd>
+        ensures { pass_number self.new.pass.pass ≡ pass_number self.old.pass.pass }
+    {
+        if !self.link.has_pending_output() {
+            return Ok(false);
+        }
+        match self.link.resume() {
+            Ok(is_taken) => {
+                if is_taken {
+                    self.deadlines.record_write(time.second);
+                }
+                Ok(!self.link.has_pending_output())
+            }
+            Err(_) => Err(SessionEnd::Lost),
+        }
+    }
+
+    /// Adds a group. Returns `false` if the session was subscribed to it before.
+    pub(crate) fn subscribe(&mut self, group: DocumentGroup) -> Result<bool, AllocError>
+        ensures { pass_number self.new.pass.pass ≡ pass_number self.old.pass.pass }
+    {
+        let number = group.number();
+        if self.groups.iter().any(|known| known.number() == number) {
+            return Ok(false);
+        }
+        self.groups.push(group)?;
+        Ok(true)
+    }
+
+    /// Sends a ping to a silent client, or returns why the session ends.
+    pub(crate) fn check(
+        &mut self,
+        time: LoopTime,
+        output: &mut LoopOutput,
+    ) -> Result<(), SessionEnd>
+        ensures { pass_number self.new.pass.pass ≡ pass_number self.old.pass.pass }
+    {
+        let is_pending = self.link.has_pending_output();
+        match self.deadlines.next_action(time.second, is_pending) {
+            DueAction::Nothing => Ok(()),
+            DueAction::End(end) => Err(end),
+            DueAction::Ping => {
+                let ping = Message::Ping(&[]);
+                let _ = self.websocket.write(ping, &mut output.bytes, &mut NoMask);
+                self.send(time, output)
+            }
+        }
+    }
+
+    /// Returns whether the queues weren't read because of a listing that has ended, and forgets it.
+    pub(crate) fn take_deferral(&mut self) -> bool
+        ensures { pass_number self.new.pass.pass ≡ pass_number self.old.pass.pass }
+    {
+        if self.listing.is_some() {
+            return false;
+        }
+        std::mem::replace(&mut self.is_deferred, false)
+    }
+
+    /// Writes what a turn has left when its session ends.
+    pub(crate) fn send_rest(&mut self, time: LoopTime, output: &mut LoopOutput)
+        ensures { pass_number self.new.pass.pass ≡ pass_number self.old.pass.pass }
+    {
+        // (a connection that is lost is found to be so again when the session ends)
+        let _ = self.send(time, output);
+    }
+
+    /// Writes the output. What the socket doesn't take is pending.
+    pub(crate) fn send(&mut self, time: LoopTime, output: &mut LoopOutput) -> Result<(), SessionEnd>
+        ensures { pass_number self.new.pass.pass ≡ pass_number self.old.pass.pass }
+    {
+        let is_sent = self.link.send(&mut output.bytes).is_ok();
+        self.deadlines.record_write(time.second);
+        if is_sent {
+            Ok(())
+        } else {
+            Err(SessionEnd::Lost)
+        }
+    }
+
+    // Appends what the client receives at the end of its session. Returns whether it is to be sent.
+    fn write_end(&mut self, end: SessionEnd, output: &mut LoopOutput) -> bool
+        ensures { pass_number self.new.pass.pass ≡ pass_number self.old.pass.pass }
+    {
+        if let SessionEnd::TooLong = end {
+            return self.write_refusal(output);
+        }
+        match end.close_code() {
+            Some(code) => write_close(&mut self.websocket, code, &mut output.bytes),
+            None => matches!(end, SessionEnd::Closed),
+        }
+    }
+
+    // Appends the answer to a message that is too long, and a close. The context that read it writes
+    // no more text, so a new one does.
+    fn write_refusal(&mut self, output: &mut LoopOutput) -> bool
+        ensures { pass_number self.new.pass.pass ≡ pass_number self.old.pass.pass }
+    {
+        let mut websocket = WebSocketContext::new(self.alloc, Role::Server, configuration());
+        let mut sink = FrameSink::new(&mut websocket, &mut output.bytes);
+        if self.session.refuse_unreadable_to(&mut sink).is_err() {
+            return false;
+        }
+        write_close(&mut websocket, CloseCode::Size, &mut output.bytes)
+    }
+}
+
+impl<B: PassBrand> Connection<B> {
+    /// Ends the session, and sends what the client receives at its end. The session's queues are
+    /// closed.
+    pub(crate) fn end<R: Wait + Drop>(
+        mut self,
+        context: &LoopContext<R, B>,
+        end: SessionEnd,
+        time: LoopTime,
+        output: &mut LoopOutput,
+    ) -> EndedConnection<B>
+        ensures { let b = context.now.state.value.backend in KeepsPass b self.pass.pass b result.pass.pass }
+    {
+        let is_answered = self.write_end(end, output);
+        let is_sent = self.link.send(&mut output.bytes).is_ok();
+        let Connection {
+            alloc,
+            link,
+            mut pass,
+            session,
+            websocket,
+            partial,
+            groups,
+            messages,
+            operations,
+            listing,
+            ..
+        } = self;
+        let report = SessionReport {
+            number: pass.number(),
+            source: source_of(alloc, &session),
+            end,
+            messages,
+            operations,
+        };
+        pass.end_session(context, session, listing);
+        let closing = if is_answered && is_sent {
+            let readable = readable_context(websocket);
+            let drains = !matches!(end, SessionEnd::Closed);
+            Some(ClosingConnection::new(link, readable, partial, time.second, drains))
+        } else {
+            None
+        };
+        EndedConnection {
+            pass,
+            report,
+            closing,
+            groups,
+        }
+    }
+}

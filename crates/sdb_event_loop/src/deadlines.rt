@@ -1,0 +1,94 @@
+//! The deadlines of a served client, in seconds of its loop.
+use crate::session_end::SessionEnd;
+
+// Seconds of silence before a ping, and before the connection is closed.
+const SILENCE_LIMIT_BEFORE_PING: u64 = 60;
+
+const SILENCE_LIMIT: u64 = 120;
+
+// Seconds that a message may take.
+const MESSAGE_LIMIT_SECONDS: u64 = 41;
+
+/// Seconds that a write may take without progress.
+pub(crate) const WRITE_LIMIT_SECONDS: u64 = 10;
+
+/// The seconds in which a client last made progress.
+#[derive(Drop)]
+pub(crate) struct Deadlines {
+    // The last message, ping or pong.
+    last_message: u64,
+    // The last time that the socket took output.
+    last_write: u64,
+    // The begin of a message that isn't complete.
+    message_start: Option<u64>,
+    is_pinged: bool,
+}
+
+/// What is due in a second.
+#[derive(Clone, Copy, Drop)]
+pub(crate) enum DueAction {
+    Nothing,
+    Ping,
+    End(SessionEnd),
+}
+
+impl Deadlines {
+    /// Creates the deadlines of a client whose handshake ends in this second.
+    pub(crate) fn new(second: u64) -> Deadlines {
+        Deadlines {
+            last_message: second,
+            last_write: second,
+            message_start: None,
+            is_pinged: false,
+        }
+    }
+
+    /// Records a complete message, ping or pong.
+    pub(crate) fn record_message(&mut self, second: u64) {
+        self.last_message = second;
+        self.is_pinged = false;
+    }
+
+    /// Records that no message has begun.
+    pub(crate) fn end_message(&mut self) {
+        self.message_start = None;
+    }
+
+    /// Records that a message has begun.
+    pub(crate) fn begin_message(&mut self, second: u64) {
+        if self.message_start.is_none() {
+            self.message_start = Some(second);
+        }
+    }
+
+    /// Records that the socket took output, or that output became pending.
+    pub(crate) fn record_write(&mut self, second: u64) {
+        self.last_write = second;
+    }
+
+    /// Returns what is due. A ping is due once for each silence.
+    pub(crate) fn next_action(&mut self, second: u64, has_pending_output: bool) -> DueAction {
+        if has_pending_output {
+            return match second.saturating_sub(self.last_write) > WRITE_LIMIT_SECONDS {
+                true => DueAction::End(SessionEnd::Lost),
+                false => DueAction::Nothing,
+            };
+        }
+        let is_slow = match self.message_start {
+            Some(start) => second.saturating_sub(start) > MESSAGE_LIMIT_SECONDS,
+            None => false,
+        };
+        if is_slow {
+            return DueAction::End(SessionEnd::Slow);
+        }
+        let silence = second.saturating_sub(self.last_message);
+        if silence > SILENCE_LIMIT {
+            return DueAction::End(SessionEnd::Silent);
+        }
+        if silence > SILENCE_LIMIT_BEFORE_PING && !self.is_pinged {
+            self.is_pinged = true;
+            return DueAction::Ping;
+        }
+        DueAction::Nothing
+    }
+}

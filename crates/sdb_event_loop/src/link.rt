@@ -1,0 +1,94 @@
+//! The socket of a connection.
+use crate::pending_output::{PendingOutput, is_would_block};
+use mio::net::TcpStream as MioStream;
+use std::alloc::Global;
+use std::io;
+use std::io::{Read, Write};
+
+/// The outcome of one read.
+#[derive(Clone, Copy, Drop)]
+pub(crate) enum ReadOutcome {
+    /// This number of bytes came, 1 or more.
+    Bytes(usize),
+    /// No bytes wait.
+    Blocked,
+    /// The client has closed its sending side.
+    Closed,
+}
+
+/// The socket of a connection, its pending output, and what events have reported of it. An event is
+/// reported once, so it is recorded until a read finds no more.
+#[derive(Drop)]
+pub(crate) struct Link {
+    stream: MioStream,
+    pending: PendingOutput,
+    is_readable: bool,
+    // Whether a short read doesn't show that all input was read, since no event reports the rest.
+    reads_until_blocked: bool,
+}
+
+impl Link {
+    /// Creates the link. Input may wait already.
+    pub(crate) fn new(alloc: Global, stream: MioStream) -> Link {
+        Link {
+            stream,
+            pending: PendingOutput::new(alloc),
+            is_readable: true,
+            reads_until_blocked: true,
+        }
+    }
+
+    /// Records that input waits, or that the client has closed its sending side.
+    pub(crate) fn record_readable(&mut self, is_closed: bool) {
+        self.is_readable = true;
+        self.reads_until_blocked = self.reads_until_blocked || is_closed;
+    }
+
+    /// Returns the stream. Pending output is discarded.
+    pub(crate) fn into_stream(self) -> MioStream {
+        let Link { stream, .. } = self;
+        stream
+    }
+
+    /// Returns whether a read may find input.
+    pub(crate) fn is_readable(&self) -> bool {
+        self.is_readable
+    }
+
+    /// Returns whether output is pending.
+    pub(crate) fn has_pending_output(&self) -> bool {
+        !self.pending.is_empty()
+    }
+
+    /// Reads once.
+    pub(crate) fn read(&mut self, input: &mut [u8]) -> io::Result<ReadOutcome> {
+        match self.stream.read(input) {
+            Ok(0) => Ok(ReadOutcome::Closed),
+            Ok(count) => {
+                self.is_readable = self.reads_until_blocked || count >= input.len();
+                Ok(ReadOutcome::Bytes(count))
+            }
+            Err(error) if is_would_block(&error) => {
+                self.is_readable = false;
+                self.reads_until_blocked = false;
+                Ok(ReadOutcome::Blocked)
+            }
+            Err(error) => Err(error),
+        }
+    }
+
+    /// Writes the output, and clears it. What the socket doesn't take is pending.
+    pub(crate) fn send(&mut self, output: &mut Vec<u8>) -> io::Result<()> {
+        if output.is_empty() {
+            return Ok(());
+        }
+        let sent = self.pending.send(&mut self.stream, output);
+        output.clear();
+        sent
+    }
+
+    /// Writes pending output. Returns whether the socket took any.
+    pub(crate) fn resume(&mut self) -> io::Result<bool> {
+        self.pending.resume(&mut self.stream)
+    }
+}

@@ -1,0 +1,88 @@
+//! The buffers of a loop and of a thread, which serve one client at a time.
+use crate::document_group::DocumentGroup;
+use sdb_oplog::Moment;
+use std::alloc::{AllocError, Global};
+
+// Size in bytes of one read.
+const INPUT_SIZE: usize = 64 * 1_024;
+
+// Capacity in bytes above which an output buffer is freed.
+const OUTPUT_CAPACITY_LIMIT: usize = 1 << 20;
+
+/// Number of bytes of output after which the turn of a client ends.
+pub(crate) const OUTPUT_BOUND: usize = 64 * 1_024;
+
+/// The time of a pass of a loop.
+#[derive(Clone, Copy, Drop)]
+pub(crate) struct LoopTime {
+    /// Whole seconds since the loop began.
+    pub(crate) second: u64,
+    /// Milliseconds since the loop began.
+    pub(crate) millis: u64,
+    /// The milliseconds of the moment of operations that are stored in the pass.
+    pub(crate) moment_millis: u64,
+}
+
+impl LoopTime {
+    /// Returns the moment of operations that are stored in the pass.
+    pub(crate) fn moment(self) -> Moment {
+        Moment::saturating_new(self.moment_millis)
+    }
+}
+
+/// What a client's turn makes: frames to send, and the groups of documents that it names.
+#[derive(Drop)]
+pub(crate) struct LoopOutput {
+    pub(crate) bytes: Vec<u8>,
+    /// The groups to which a session has subscribed.
+    pub(crate) subscribed: Vec<DocumentGroup>,
+}
+
+/// The buffers of a loop or of a thread.
+#[derive(Drop)]
+pub(crate) struct LoopBuffers {
+    /// The bytes of one read.
+    pub(crate) input: Vec<u8>,
+    /// Memory for the input of a client that keeps none.
+    pub(crate) spare: Vec<u8>,
+    pub(crate) output: LoopOutput,
+}
+
+impl LoopBuffers {
+    /// Creates the buffers. Fails only if an allocation fails.
+    pub(crate) fn new(alloc: Global) -> Result<LoopBuffers, AllocError> {
+        Ok(LoopBuffers {
+            input: Vec::from_elem(alloc, 0, INPUT_SIZE)?,
+            spare: Vec::new(alloc),
+            output: LoopOutput {
+                bytes: Vec::new(alloc),
+                subscribed: Vec::new(alloc),
+            },
+        })
+    }
+}
+
+impl LoopOutput {
+    /// Moves out the groups to which a session has subscribed.
+    pub(crate) fn take_subscribed(&mut self, alloc: Global) -> Vec<DocumentGroup> {
+        std::mem::replace(&mut self.subscribed, Vec::new(alloc))
+    }
+
+    /// Records that the session has subscribed to a document of the group, if there is one.
+    pub(crate) fn record_subscription(
+        &mut self,
+        subscribed: Option<DocumentGroup>,
+    ) -> Result<(), AllocError> {
+        if let Some(group) = subscribed {
+            self.subscribed.push(group)?;
+        }
+        Ok(())
+    }
+
+    /// Frees the memory of a large output.
+    pub(crate) fn free_large(&mut self, alloc: Global) {
+        if self.bytes.is_empty() && self.bytes.capacity() > OUTPUT_CAPACITY_LIMIT {
+            self.bytes = Vec::new(alloc);
+        }
+    }
+}

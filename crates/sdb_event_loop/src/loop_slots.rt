@@ -1,0 +1,144 @@
+//! The loops of a run, and the threads that continue them.
+use crate::loop_pass::{LoopPass, PassBrand};
+use crate::loop_slot::LoopSlot;
+use crate::polled_loop::PolledLoop;
+use std::alloc::{AllocError, Global};
+use std::collections::VecDeque;
+use std::sync::atomic::{AtomicBool, AtomicUsize, Ordering};
+use std::sync::{Condvar, Mutex, Wait};
+use std::thread::Parker;
+use std::time::Duration;
+
+// Longest time in seconds for which the watcher is parked.
+const WATCHER_PAUSE_SECONDS: u64 = 1;
+
+/// The loops of a run. Each is run by one thread at a time, and any thread can continue one that is
+/// in its slot.
+#[derive(Drop)]
+pub(crate) struct LoopSlots<R, B: PassBrand> {
+    slots: Vec<LoopSlot<R, B>>,
+    // The numbers of the loops that wait for a thread.
+    waiting: Mutex<VecDeque<usize>>,
+    has_waiting: Condvar,
+    // Number of loops that haven't ended.
+    running_count: AtomicUsize,
+    // The passes of the loops that have ended.
+    passes: Mutex<Vec<Vec<LoopPass<B>>>>,
+    // The thread that watches the slots parks here.
+    watcher: Parker,
+    is_watching: AtomicBool,
+}
+
+impl<R: Drop, B: PassBrand> LoopSlots<R, B> {
+    /// Creates the slots of this number of loops, for at most this number of turns at once. Fails
+    /// only if an allocation fails.
+    pub(crate) fn new(
+        alloc: Global,
+        loops: usize,
+        turns: usize,
+    ) -> Result<LoopSlots<R, B>, AllocError> {
+        let mut slots = Vec::with_capacity(alloc, loops)?;
+        for _ in 0..loops {
+            slots.push(LoopSlot::new(alloc, turns)?)?;
+        }
+        let mut waiting = VecDeque::with_capacity(alloc, loops)?;
+        waiting.extend(0..loops)?;
+        Ok(LoopSlots {
+            slots,
+            waiting: Mutex::new(waiting),
+            has_waiting: Condvar::new(),
+            running_count: AtomicUsize::new(loops),
+            passes: Mutex::new(Vec::with_capacity(alloc, loops)?),
+            watcher: Parker::new(),
+            is_watching: AtomicBool::new(true),
+        })
+    }
+
+    /// Returns the slot of a loop.
+    pub(crate) fn slot(&self, number: usize) -> Option<&LoopSlot<R, B>> {
+        self.slots.get(number)
+    }
+
+    /// Returns whether all loops have ended.
+    pub(crate) fn have_ended(&self) -> bool {
+        self.running_count.load(Ordering::SeqCst) == 0
+    }
+
+    /// Moves the loop into its slot for a turn, which is watched.
+    pub(crate) fn begin_turn<W: Wait>(
+        &self,
+        rt: &W,
+        slot: &LoopSlot<R, B>,
+        event_loop: Box<PolledLoop<R, B>>,
+    ) {
+        slot.put(rt, event_loop);
+        if !self.is_watching.load(Ordering::SeqCst) {
+            self.is_watching.store(true, Ordering::SeqCst);
+            self.watcher.unpark();
+        }
+    }
+
+    /// Waits for a loop that needs a thread, and returns its number, or `None` once all have ended.
+    pub(crate) fn next_loop<W: Wait>(&self, rt: &W) -> Option<usize> {
+        let mut waiting = self.waiting.lock(rt);
+        for _ in rt.forever() {
+            if let Some(number) = waiting.pop_front() {
+                return Some(number);
+            }
+            if self.have_ended() {
+                return None;
+            }
+            waiting = self.has_waiting.wait(rt, waiting);
+        }
+        unreachable!()
+    }
+
+    // Lets another thread continue the loop.
+    fn assign<W: Wait>(&self, rt: &W, number: usize) {
+        // Can't fail: the list has capacity for all loops, and none is in it twice.
+        let _ = self.waiting.lock(rt).push_back(number);
+        self.has_waiting.notify_one();
+    }
+
+    /// Lets another thread continue each loop that has been in its slot since the last call: its
+    /// count of moves is that of `seen`. Returns whether a loop was moved, or is in its slot.
+    pub(crate) fn watch<W: Wait>(&self, rt: &W, seen: &mut [u64]) -> bool {
+        let mut is_active = false;
+        for (number, (slot, seen)) in self.slots.iter().zip(seen.iter_mut()).enumerate() {
+            let count = slot.move_count();
+            let is_in_slot = count % 2 == 1;
+            is_active = is_active || is_in_slot || count != *seen;
+            if is_in_slot && count == *seen && slot.assign() {
+                self.assign(rt, number);
+            }
+            *seen = count;
+        }
+        is_active
+    }
+
+    /// Parks the watcher until a turn begins.
+    pub(crate) fn await_turn<W: Wait>(&self, rt: &W, seen: &mut [u64]) {
+        self.is_watching.store(false, Ordering::SeqCst);
+        if !self.watch(rt, seen) && !self.have_ended() {
+            let pause = Duration::from_secs(WATCHER_PAUSE_SECONDS);
+            self.watcher.park_timeout(rt, pause);
+        }
+        self.is_watching.store(true, Ordering::SeqCst);
+    }
+
+    /// Records that a loop has ended, with the passes of its sessions.
+    pub(crate) fn end_loop<W: Wait>(&self, rt: &W, passes: Vec<LoopPass<B>>) {
+        // Can't fail: the list has capacity for all loops.
+        let _ = self.passes.lock(rt).push(passes);
+        let waiting = self.waiting.lock(rt);
+        self.running_count.fetch_sub(1, Ordering::SeqCst);
+        drop(waiting);
+        self.has_waiting.notify_all();
+        self.watcher.unpark();
+    }
+
+    /// Returns the passes of the loops that have ended.
+    pub(crate) fn take_passes<W: Wait>(&self, rt: &W, alloc: Global) -> Vec<Vec<LoopPass<B>>> {
+        std::mem::replace(&mut *self.passes.lock(rt), Vec::new(alloc))
+    }
+}

@@ -1,0 +1,79 @@
+//! The output that a client hasn't taken.
+use std::alloc::Global;
+use std::io;
+use std::io::{ErrorKind, Write};
+
+// Maximum number of unsent bytes of one client. A client isn't read from while it has any, so they
+// are at most the answers of one turn: a document of some megabytes, or the listing of a long log.
+const PENDING_OUTPUT_LIMIT: usize = 1 << 28;
+
+/// Bytes that the socket hasn't taken. It holds no memory while it is empty.
+#[derive(Drop)]
+pub(crate) struct PendingOutput {
+    alloc: Global,
+    bytes: Vec<u8>,
+    sent: usize,
+}
+
+impl PendingOutput {
+    /// Creates it without bytes.
+    pub(crate) fn new(alloc: Global) -> PendingOutput {
+        PendingOutput {
+            alloc,
+            bytes: Vec::new(alloc),
+            sent: 0,
+        }
+    }
+
+    pub(crate) fn is_empty(&self) -> bool {
+        self.bytes.is_empty()
+    }
+
+    /// Writes the bytes after those that are pending. What the socket doesn't take is pending.
+    pub(crate) fn send<S: Write>(&mut self, stream: &mut S, bytes: &[u8]) -> io::Result<()> {
+        let count = if self.is_empty() {
+            write_some(stream, bytes)?
+        } else {
+            0
+        };
+        let rest = bytes.get(count..).unwrap_or(&[]);
+        if rest.is_empty() {
+            return Ok(());
+        }
+        if self.bytes.len().saturating_add(rest.len()) > PENDING_OUTPUT_LIMIT {
+            return Err(io::Error::from(ErrorKind::TimedOut));
+        }
+        self.bytes.extend_from_slice(rest)?;
+        Ok(())
+    }
+
+    /// Writes pending bytes as far as the socket takes them. Returns whether it took any.
+    pub(crate) fn resume<S: Write>(&mut self, stream: &mut S) -> io::Result<bool> {
+        let rest = self.bytes.get(self.sent..).unwrap_or(&[]);
+        let left = rest.len();
+        if left == 0 {
+            return Ok(false);
+        }
+        let count = write_some(stream, rest)?;
+        if count < left {
+            self.sent = self.sent.saturating_add(count);
+        } else {
+            self.bytes = Vec::new(self.alloc);
+            self.sent = 0;
+        }
+        Ok(count > 0)
+    }
+}
+
+// Writes once, and returns how many bytes the socket took.
+fn write_some<S: Write>(stream: &mut S, bytes: &[u8]) -> io::Result<usize> {
+    match stream.write(bytes) {
+        Err(error) if is_would_block(&error) => Ok(0),
+        written => written,
+    }
+}
+
+/// Returns whether a call would have to wait.
+pub(crate) fn is_would_block(error: &io::Error) -> bool {
+    matches!(error.kind(), ErrorKind::WouldBlock | ErrorKind::Interrupted)
+}

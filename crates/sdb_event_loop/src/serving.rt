@@ -1,0 +1,86 @@
+//! Turns of clients, as the loop sees them.
+use crate::closing::Progress;
+use crate::connection_slot::ConnectionSlot;
+use crate::event_loop::EventLoop;
+use crate::loop_pass::PassBrand;
+use crate::loop_slot::LoopSlot;
+use crate::session_end::SessionEnd;
+use crate::turn::{EndedTurn, Turn, TurnEvents};
+use std::net::Net;
+use std::sync::Wait;
+use std::time::Clock;
+
+impl<R: Net + Wait + Clock + Eprint + Copy + Drop, B: PassBrand> EventLoop<R, B> {
+    /// Begins the turn of the next client that is ready. Input of a connection that is being closed
+    /// is discarded here, without a turn.
+    pub(crate) fn next_turn(&mut self) -> Option<Turn<B>> {
+        let key = self.ready.pop_front()?;
+        match self.slots.get_mut(key)? {
+            ConnectionSlot::Closing(closing) => {
+                closing.is_listed = false;
+                match closing.discard_input(self.alloc, &mut self.buffers.input) {
+                    Progress::Idle => {}
+                    Progress::More => self.list_ready(key),
+                    Progress::Over => self.remove(key),
+                }
+                None
+            }
+            slot => {
+                let mut connection = slot.begin_turn()?;
+                connection.is_listed = false;
+                self.turn_count = self.turn_count.saturating_add(1);
+                Some(Turn { key, connection })
+            }
+        }
+    }
+
+    /// Ends each turn that has ended while another thread ran the loop.
+    pub(crate) fn end_turns(&mut self, slot: &LoopSlot<R, B>) {
+        if !slot.has_ended_turns() {
+            return;
+        }
+        // (each turn has a connection in a slot)
+        for _ in 0..=self.turn_count {
+            match slot.take_ended_turn(&self.context.rt) {
+                Some(turn) => self.end_turn(turn),
+                None => return,
+            }
+        }
+    }
+
+    /// Ends a turn: the client is put back, and what it has subscribed to is registered.
+    pub(crate) fn end_turn(&mut self, turn: EndedTurn<B>) {
+        let EndedTurn {
+            key,
+            connection,
+            outcome,
+            subscribed,
+        } = turn;
+        self.turn_count = self.turn_count.saturating_sub(1);
+        let events = match self.slots.get(key) {
+            Some(ConnectionSlot::InTurn(events)) => *events,
+            _ => TurnEvents::new(),
+        };
+        self.put_slot(key, ConnectionSlot::Served(connection));
+        self.apply_events(key, events);
+        self.note_subscriptions(key, subscribed);
+        match outcome {
+            Ok(_) if self.ending_since.is_some() => self.end_session(key, SessionEnd::Stopped),
+            Ok(progress) => self.list_next(key, progress),
+            Err(end) => self.end_session(key, end),
+        }
+    }
+
+    // Lists the connection for what is next: more input or a listing, or queues that weren't read
+    // while a listing was sent.
+    fn list_next(&mut self, key: usize, progress: Progress) {
+        if progress == Progress::More {
+            self.list_ready(key);
+        }
+        if let Some(ConnectionSlot::Served(connection)) = self.slots.get_mut(key)
+            && connection.take_deferral()
+        {
+            self.list_lagging(key);
+        }
+    }
+}

@@ -1,0 +1,23 @@
+use denote.Param.Send.{sendable}
+use Rattle.std.proofs.Common.{sym, ap, ◌∙◌, subst}
+use Rattle.std.proofs.Crossing.{crosses}
+use Rattle.sdb_backend.specs.PassModel.{IsHostOfBackend, IsPassOfBackend}
+use Rattle.sdb_growlock.specs.LockRule.{ForEach}
+use Rattle.sdb_event_loop.proofs.SendSync.{LoopServer-send, LoopServer-sync}
+use Rattle.sdb_server_tests.proofs.loops.loops_serve_clients_and_return_their_passes.Goals as goal
+
+pub listen_on_loops-requires-after_bounds : goal.listen_on_loops-requires-after_bounds
+listen_on_loops-requires-after_bounds g c κs = c.in_ok-state.ensures c.in_ok-backend.host c.in_ok-backend.ensures.host
+
+pub spawn-requires-send-F : goal.spawn-requires-send-F
+spawn-requires-send-F g c κs = search (LoopServer-send, LoopServer-sync, sendable, crosses) depth 40
+
+pub close-requires-clause-host : goal.close-requires-clause-host
+close-requires-clause-host g c =
+    let same = c.into_backend.ensures ∙ ap (λ s. s.backend) c.in-Ok.ensures.ok in
+    subst (λ b. IsHostOfBackend c.listen_on_loops.new.host b) (sym same) c.in_ok-passes.ensures.host
+
+pub close-requires-clause-passes : goal.close-requires-clause-passes
+close-requires-clause-passes g c =
+    let same = c.into_backend.ensures ∙ ap (λ s. s.backend) c.in-Ok.ensures.ok in
+    subst (λ b. ForEach (λ p. IsPassOfBackend p b) c.in_ok-passes.passes.items) (sym same) c.in_ok-passes.ensures.passes
