@@ -23,13 +23,20 @@ const VERSION: &str = "1.0.0";
 // The maximum of `--connections`.
 const CONNECTION_LIMIT: u64 = 1_000_000;
 
+const CONNECTIONS_HELP: &str = "With --listen, exit after serving N clients";
+
+const LOOPS_HELP: &str =
+    "With --listen, serve clients on N event loops; the default is half the processors";
+
+const CLIENTS_HELP: &str = "With --listen, serve at most N clients at once; the default is 64";
+
 fn command<'a>(alloc: Global) -> Result<Command<'a>, AllocError> {
-    let connections = connections_option(alloc)?;
+    let connections = number_option(alloc, "connections", CONNECTIONS_HELP, CONNECTION_LIMIT)?;
     let until_eof = until_eof_option(alloc)?;
     let dump = dump_option(alloc)?;
     let log = log_option(alloc)?;
-    let loops = loops_option(alloc)?;
-    let clients = clients_option(alloc)?;
+    let loops = number_option(alloc, "loops", LOOPS_HELP, LOOP_LIMIT as u64)?;
+    let clients = number_option(alloc, "clients", CLIENTS_HELP, LOOP_CLIENT_LIMIT as u64)?;
     let job = job_group(alloc)?;
     Command::new(alloc, "sdb_server")
         .about("A ShareDB server for JSON documents")
@@ -61,14 +68,20 @@ fn listen_option<'a>(alloc: Global) -> Arg<'a> {
         .action(ArgAction::Set)
 }
 
-fn connections_option<'a>(alloc: Global) -> Result<Arg<'a>, AllocError> {
-    let connections = Arg::new(alloc, "connections")
-        .long("connections")
+// Returns the option of a number from 1 to the limit, for `--listen`.
+fn number_option<'a>(
+    alloc: Global,
+    name: &'a str,
+    help: &'a str,
+    limit: u64,
+) -> Result<Arg<'a>, AllocError> {
+    let number = Arg::new(alloc, name)
+        .long(name)
         .value_name("N")
-        .help("With --listen, exit after serving N clients")
-        .value_parser(ValueParser::unsigned(1, CONNECTION_LIMIT))
+        .help(help)
+        .value_parser(ValueParser::unsigned(1, limit))
         .action(ArgAction::Set);
-    connections.requires_arg("listen")?.conflicts_with("lines")
+    number.requires_arg("listen")?.conflicts_with("lines")
 }
 
 fn until_eof_option<'a>(alloc: Global) -> Result<Arg<'a>, AllocError> {
@@ -98,26 +111,6 @@ fn log_option<'a>(alloc: Global) -> Result<Arg<'a>, AllocError> {
         .help("With --listen, log connections to standard error")
         .action(ArgAction::SetTrue);
     log.requires_arg("listen")?.conflicts_with("lines")
-}
-
-fn loops_option<'a>(alloc: Global) -> Result<Arg<'a>, AllocError> {
-    let loops = Arg::new(alloc, "loops")
-        .long("loops")
-        .value_name("N")
-        .help("With --listen, serve clients on N event loops; the default is half the processors")
-        .value_parser(ValueParser::unsigned(1, LOOP_LIMIT as u64))
-        .action(ArgAction::Set);
-    loops.requires_arg("listen")?.conflicts_with("lines")
-}
-
-fn clients_option<'a>(alloc: Global) -> Result<Arg<'a>, AllocError> {
-    let clients = Arg::new(alloc, "clients")
-        .long("clients")
-        .value_name("N")
-        .help("With --listen, serve at most N clients at once; the default is 64")
-        .value_parser(ValueParser::unsigned(1, LOOP_CLIENT_LIMIT as u64))
-        .action(ArgAction::Set);
-    clients.requires_arg("listen")?.conflicts_with("lines")
 }
 
 fn projection_option<'a>(alloc: Global) -> Arg<'a> {

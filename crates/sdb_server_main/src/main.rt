@@ -2,9 +2,6 @@
 //! lines on standard input and output.
 #![tactic(auto)]
 
-#[cfg(test)]
-mod command_line;
-
 use sdb_server_cli::run;
 use std::env;
 use std::process::ExitCode;

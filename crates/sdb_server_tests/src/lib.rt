@@ -1,5 +1,5 @@
-//! Tests of the public functions of the server, one module for each file of `sdb_server`. They are
-//! a separate crate so that the server is not proved again for its tests.
+//! Tests of the server's public functions and of its command line. They are a separate crate so that
+//! the server is not proved again for its tests.
 #![tactic(auto)]
 
 #[cfg(test)]
@@ -8,6 +8,8 @@ mod clients;
 mod clock;
 #[cfg(test)]
 mod close_output;
+#[cfg(test)]
+mod command_line;
 #[cfg(test)]
 mod connections;
 #[cfg(test)]
