@@ -1,6 +1,6 @@
-"""Measures what one client's long edits cost the editors of other documents: bystanders.py SERVER [EDITS]
+"""Measures what one client's long edits cost the editors of other documents: bystanders.py SERVER [EDITS [LATE]]
 
-One document gets 1,000 operations of 256 components. Then one client sends operations of 256 components with base
+One document gets 1,000 operations of 256 components. Then one client, or LATE, send operations of 256 components with base
 version 1, so each is transformed against all of them. Another client edits the document without a pause, so each commit
 finds a longer log. At the same time a bystander sends edits to sixteen other documents in turn, of which some share the
 document's lock: 10,000 (or EDITS), and more until two of the late operations are acknowledged, but at most for five minutes.
@@ -22,7 +22,7 @@ from support.server import Server  # noqa: E402
 TYPE = "http://sharejs.org/types/JSONv0"
 COMPONENTS = 256
 LONG = 1_000
-LATE = 2
+ENOUGH = 2  # late operations that are acknowledged
 LONGEST = 300  # seconds for two late operations
 DOCUMENTS = 16
 
@@ -97,7 +97,8 @@ def repeat(port, source, edit, count):
     try:
         while True:
             client.submit("a", **edit)
-            count.value += 1
+            with count.get_lock():
+                count.value += 1
     except (EOFError, OSError):
         pass
 
@@ -107,7 +108,7 @@ def report(name, client, edits, is_enough):
     print(f"{name}: {count} edits, middle {middle * 1e6:.0f} us, slowest {slowest * 1e3:.1f} ms", flush=True)
 
 
-def main(program, edits=10_000):
+def main(program, edits=10_000, late_clients=1):
     with Server(program) as server:
         port = server.address[1]
         bystander, author = Client(port, "bystander"), Client(port, "author")
@@ -119,16 +120,15 @@ def main(program, edits=10_000):
         report("alone", bystander, edits, lambda: True)
         late, stored = multiprocessing.Value("q"), multiprocessing.Value("q")
         one = {"op": [{"p": ["n"], "na": 1}]}
-        others = [
-            multiprocessing.Process(target=repeat, daemon=True, args=(port, "late", {"v": 1, "op": long_edit()}, late)),
-            multiprocessing.Process(target=repeat, daemon=True, args=(port, "storer", one, stored)),
-        ]
+        late_edit = {"v": 1, "op": long_edit()}
+        loads = [(port, f"late-{number}", late_edit, late) for number in range(late_clients)] + [(port, "storer", one, stored)]
+        others = [multiprocessing.Process(target=repeat, daemon=True, args=load) for load in loads]
         for other in others:
             other.start()
         try:
             time.sleep(1)
             end = time.monotonic() + LONGEST
-            report("concurrent", bystander, edits, lambda: late.value >= LATE or time.monotonic() > end)
+            report("concurrent", bystander, edits, lambda: late.value >= ENOUGH or time.monotonic() > end)
             print(f"meanwhile {late.value} late operations and {stored.value} others were acknowledged")
         finally:
             for other in others:

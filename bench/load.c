@@ -4,6 +4,7 @@
 //
 //     count      the clients increment one number
 //     documents  the clients increment the number of each of DOCUMENTS documents, in turn
+//     groups     each client increments the number of its document, client n of document n modulo DOCUMENTS, and is subscribed to it
 //     text       the clients type into one text, each at a place of its own; all are subscribed to it
 //     board      the clients vote for, rename, move and replace cards of one board; all are subscribed to it
 //     storm      all clients lose their connections to one document at once, while MISSED operations are stored, and
@@ -21,8 +22,8 @@
 
 enum { LENGTH = 10000, CARDS = 100, MISSED = 100, RETRY = 1000 };  // characters, cards, operations, microseconds
 
-enum Scenario { COUNT, DOCUMENTS, TEXT, BOARD, STORM, SCENARIOS };
-static const char *const scenario_names[] = {"count", "documents", "text", "board", "storm"};
+enum Scenario { COUNT, DOCUMENTS, GROUPS, TEXT, BOARD, STORM, SCENARIOS };
+static const char *const scenario_names[] = {"count", "documents", "groups", "text", "board", "storm"};
 
 typedef struct {
     Link link;
@@ -46,7 +47,7 @@ static uint64_t began;
 static unsigned long long due, sent, in_flight, refusals;
 
 static bool is_subscribed(void) {
-    return scenario == TEXT || scenario == BOARD || scenario == STORM;
+    return scenario != COUNT && scenario != DOCUMENTS;
 }
 
 // Documents
@@ -76,6 +77,12 @@ static const char *first_data(void) {
     return text;
 }
 
+// Returns the document of a client's next operation.
+static int document_of(const Client *client) {
+    unsigned long long number = client - clients;
+    return (scenario == DOCUMENTS ? client->edits * client_count + number : number) % document_count;
+}
+
 // Creates all documents, as numbers 1 to DOCUMENTS of the first client.
 static void create(void) {
     Link *link = &clients[0].link;
@@ -102,7 +109,7 @@ static void open_client(int number) {
     if (number == 0) create();
     client->version = 1;
     if (!is_subscribed()) return;
-    SEND(&client->link, "{\"a\":\"s\",\"c\":\"b\",\"d\":\"%s\"}", name_of(0));
+    SEND(&client->link, "{\"a\":\"s\",\"c\":\"b\",\"d\":\"%s\"}", name_of(document_of(client)));
     await_text(&client->link, "\"a\":\"s\"");
 }
 
@@ -131,7 +138,7 @@ static void write_edit(char *text, size_t size, const Client *client) {
 // Sends a client's next operation. With several documents it has no base version: the current one is meant.
 static void submit(Client *client) {
     char edit[256], base[32] = "";
-    int document = (client->edits * client_count + (client - clients)) % document_count;
+    int document = document_of(client);
     write_edit(edit, sizeof edit, client);
     if (scenario != DOCUMENTS) snprintf(base, sizeof base, "\"v\":%llu,", client->version);
     client->edits++;
@@ -175,9 +182,13 @@ static void hear(Link *link, Text text) {
     submit_due(client);
 }
 
-static bool has_all(unsigned long long version) {
+// Returns whether each client has all edits of its document.
+static bool has_all(void) {
+    unsigned long long versions[document_count];
+    for (int document = 0; document < document_count; document++) versions[document] = 1;
+    for (int i = 0; i < client_count; i++) versions[i % document_count] += clients[i].edits;
     for (int i = 0; i < client_count; i++)
-        if (clients[i].version < version) return false;
+        if (clients[i].version < versions[i % document_count]) return false;
     return true;
 }
 
@@ -196,7 +207,7 @@ static void run(void) {
         }
         hear_input(queue, due < total ? due_at(due) : 0, hear);
     }
-    while (sent < due || in_flight > 0 || (is_subscribed() && !has_all(total + 1))) hear_answers(queue, hear);
+    while (sent < due || in_flight > 0 || (is_subscribed() && !has_all())) hear_answers(queue, hear);
     close(queue);
 }
 
@@ -288,7 +299,7 @@ static void read_arguments(int count, char **words) {
     }
     for (scenario = COUNT; optind < count && scenario < SCENARIOS && strcmp(words[optind], scenario_names[scenario]) != 0;) scenario++;
     bool is_right = count == optind + 2 && scenario < SCENARIOS && client_count > 0 && client_count <= MOST_CLIENTS && rate > 0;
-    if (!is_right || document_count < 1 || (document_count > 1 && scenario != DOCUMENTS)) {
+    if (!is_right || document_count < 1 || (document_count > 1 && scenario != DOCUMENTS && scenario != GROUPS)) {
         fprintf(stderr, "load SCENARIO PORT [-c CLIENTS] [-r RATE] [-s SECONDS] [-w SECONDS_TO_WARM_UP] [-d DOCUMENTS] [-k KEY]\n");
         exit(2);
     }

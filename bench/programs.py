@@ -9,7 +9,8 @@ import time
 HERE = os.path.dirname(os.path.abspath(__file__))
 CRATES = os.path.join(HERE, "..", "crates")
 TICKS = os.sysconf("SC_CLK_TCK")
-FULL = 64  # clients that the server takes
+FULL = 64  # clients that the server takes by default
+MANY, GROUPS = 1024, 64  # clients of a large server, and their documents
 PAUSE = 0.3  # seconds for the programs to notice that the connections of the last run have ended
 SETTLED = 2  # seconds over which the processor time of idle connections is measured
 

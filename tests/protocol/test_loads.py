@@ -27,11 +27,16 @@ def test_closed_loop(tmp_path, server, mode):
     assert figures(tmp_path, server, "sockets", mode, "-n", "60")["acknowledged"]["count"] > 0
 
 
-@pytest.mark.parametrize("scenario, latencies", [("count", 1), ("documents", 1), ("text", 2), ("board", 2)])
-def test_fixed_rate(tmp_path, server, scenario, latencies):
-    documents = ["-d", "7"] if scenario == "documents" else []
-    found = figures(tmp_path, server, "load", scenario, "-r", "100", *documents)
-    assert [found[it]["count"] for it in ("acknowledged", "shown") if it in found] == [31, 62][:latencies]
+# Each of 31 operations is shown to the two other clients. In groups the first and the third client have one document, and the 21
+# operations of these two are shown to the other one.
+COUNTS = [("count", [31]), ("documents", [31]), ("groups", [31, 21]), ("text", [31, 62]), ("board", [31, 62])]
+DOCUMENTS = {"documents": "7", "groups": "2"}
+
+
+@pytest.mark.parametrize("scenario, counts", COUNTS)
+def test_fixed_rate(tmp_path, server, scenario, counts):
+    found = figures(tmp_path, server, "load", scenario, "-r", "100", "-d", DOCUMENTS.get(scenario, "1"))
+    assert [found[it]["count"] for it in ("acknowledged", "shown") if it in found] == counts
 
 
 def test_storm(tmp_path, server):
