@@ -1,4 +1,5 @@
-"""SIGTERM and SIGINT end the server gracefully, by the script of examples/deploy and by `serve`: 1001 to each client, status 0."""
+"""SIGTERM and SIGINT end the server gracefully, by the script of examples/deploy and by `serve`: 1001 to each client, status 0.
+With --connections it ends after so many sessions."""
 import re
 import signal
 import subprocess
@@ -6,7 +7,7 @@ import subprocess
 import pytest
 
 from support.frames import Connection
-from support.server import END, ROOT
+from support.server import END, ROOT, Server
 
 STOPPABLE = ROOT / "examples" / "deploy" / "stoppable"
 
@@ -21,3 +22,13 @@ def test_stoppable(program, number):
             assert connection.status() == 1001
         server.communicate(timeout=END)
         assert server.returncode == 0
+
+
+def test_the_server_ends_after_the_sessions_that_connections_permits(program):
+    with Server(program, "--connections", "2") as server:
+        with server.enter() as first, server.enter():
+            with server.connect() as third:
+                third.upgrade()
+                assert third.status() == 1013
+            assert first.ask({"a": "f", "c": "b", "d": "1"})["a"] == "f"
+        assert server.process.wait(timeout=END) == 0
