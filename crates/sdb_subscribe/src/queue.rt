@@ -1,5 +1,5 @@
 //! One queue and its ring buffer.
-ghost use Rattle.std.specs.Prelude.{◌≡◌, ◌+◌, ◌-◌, ◌<◌, ◌≤◌, [], ◌++◌, length, take, drop, vec_len, vec_capacity, IfOk, OnOk, OnErr};
+ghost use Rattle.std.specs.Prelude.{◌≡◌, ◌⊎◌, ◌+◌, ◌-◌, ◌<◌, ◌≤◌, [], ◌++◌, true, length, take, drop, vec_len, vec_capacity, IfOk, OnOk, OnErr};
 ghost use Rattle.circular_buffer.specs.Buffer.{buffer};
 ghost use Rattle.sdb_subscribe.specs.Queue.{queue, pending_entries};
 ghost use Rattle.sdb_subscribe.specs.Ring.{IsRingOfLog, IsPushed, advance_ringed_queue};
@@ -10,7 +10,11 @@ use sdb_value::MAX;
 use std::alloc::{AllocError, Global};
 use std::marker::Model;
 
-// Capacity of a ring buffer in entries.
+// First capacity of a ring buffer in entries, its factor of growth and its maximum.
+const FIRST_CAPACITY: usize = 4;
+
+const GROWTH: usize = 4;
+
 const RING_CAPACITY: usize = 64;
 
 // A queue: its start version, the number of entries read, its owner number, and a ring buffer of
@@ -24,7 +28,7 @@ pub(crate) struct Queue {
 }
 
 impl Model for Queue {
-    ghost use Rattle.std.specs.Prelude.{◌≡◌, ◌+◌, ◌^◌, ◌<◌};
+    ghost use Rattle.std.specs.Prelude.{◌+◌, ◌^◌, ◌<◌, ◌≤◌};
     ghost use Rattle.sdb_subscribe.specs.Ring.{RingedQueue};
     ghost use Rattle.sdb_subscribe.specs.Coding.{ringed_queue_code};
 
@@ -38,16 +42,17 @@ impl Model for Queue {
     } };
 
     // The entries read were in a log, so the sum of both fits in 64 bits.
-    ghost invariant = { λ q. (q.start + q.taken < 2 ^ 64) × (q.ring.capacity ≡ 64) };
+    ghost invariant = { λ q. (q.start + q.taken < 2 ^ 64) × (q.ring.capacity ≤ 64) };
 }
 
 impl Queue {
-    // Creates a queue for this owner from this version on, with an empty ring buffer.
+    // Creates a queue for this owner from this version on. Its ring buffer is empty and takes no
+    // memory before the first entry.
     pub(crate) fn new(alloc: Global, by: u64, start: u64) -> Result<Queue, AllocError>
         ensures { IfOk result
             (λ q. q ≡ record { queue = record { start = start; taken = 0; by = by }; ring = [] }) }
     {
-        let ring = HeapCircularBuffer::with_capacity(alloc, RING_CAPACITY)?;
+        let ring = HeapCircularBuffer::with_capacity(alloc, 0)?;
         Ok(Queue {
             start,
             taken: 0,
@@ -70,8 +75,8 @@ impl Queue {
         self.ring.len() as u64
     }
 
-    // Pushes the newest entry of the log, unless the position is after it. If its clone fails to
-    // allocate, the ring buffer is emptied.
+    // Pushes the newest entry of the log, unless the position is after it. If an allocation fails,
+    // the ring buffer is emptied.
     pub(crate) fn push_entry(&mut self, entry: &Entry)
         ensures { IsPushed entry.now self.old self.new }
     {
@@ -79,8 +84,8 @@ impl Queue {
             return;
         }
         match entry.try_clone() {
-            Ok(copy) => drop(self.ring.push_back(copy)),
-            Err(_) => self.ring.clear(),
+            Ok(copy) if make_room(&mut self.ring) => drop(self.ring.push_back(copy)),
+            _ => self.ring.clear(),
         }
     }
 
@@ -112,6 +117,22 @@ impl Queue {
         self.taken += count as u64;
         Ok(entries)
     }
+}
+
+// Grows a full ring buffer, unless it has its maximum capacity. Returns `false` if it has to grow and
+// the allocation fails.
+fn make_room(ring: &mut HeapCircularBuffer<Entry>) -> bool
+    requires { ring.old.capacity ≤ 64 }
+    ensures items { ring.new.items ≡ ring.old.items }
+    ensures bound { ring.new.capacity ≤ 64 }
+    ensures room { result ≡ true → (length ring.new.items < ring.new.capacity) ⊎ (ring.new.capacity ≡ 64) }
+{
+    let capacity = ring.capacity();
+    if ring.len() < capacity || capacity == RING_CAPACITY {
+        return true;
+    }
+    let grown = (capacity * GROWTH).clamp(FIRST_CAPACITY, RING_CAPACITY);
+    ring.resize(grown).is_ok()
 }
 
 // Returns the first `max` entries from version `from` on.
