@@ -14,6 +14,7 @@ ghost use Rattle.sdb_backend.specs.declared.shard_value.Held.{Held as HeldShard}
 ghost use Rattle.sdb_backend.specs.declared.backend.CloseError.TheVariants.{OutOfMemory, MissingPass};
 
 use crate::audit::Audit;
+use crate::counts::{Counts, StoredCounts};
 use crate::pass::{Host, Pass};
 use crate::pass_check::seat_sets_of;
 use crate::shard_value::Held;
@@ -41,6 +42,7 @@ pub struct Backend<R> {
     pub(crate) alloc: Global,
     pub(crate) rt: R,
     pub(crate) locks: StripedLock<Held>,
+    pub(crate) counts: StoredCounts,
 }
 
 /// The reason why a backend can't be closed.
@@ -80,7 +82,14 @@ impl<R: Drop> Backend<R> {
         ensures empty { IfOk result (λ made. HasEmptyShares made.1) }
     {
         let (locks, seats) = StripedLock::new(alloc)?;
-        Ok((Backend { alloc, rt, locks }, Host { seats }))
+        let counts = StoredCounts::new();
+        let backend = Backend {
+            alloc,
+            rt,
+            locks,
+            counts,
+        };
+        Ok((backend, Host { seats }))
     }
 
     /// Creates a pass with a new number, starting with 1. The pass has observed what its host has,
@@ -172,11 +181,7 @@ impl<R: Drop> Backend<R> {
         }
         match reserve_close_buffers(self.alloc, passes.len()) {
             Ok((places, seats)) => {
-                let Backend {
-                    alloc,
-                    rt: _,
-                    locks,
-                } = self;
+                let Backend { alloc, locks, .. } = self;
                 let shards = locks.close(host.into_seats(), seat_sets_of(passes, seats), places);
                 Ok(Audit::new(alloc, shards))
             }
@@ -187,6 +192,19 @@ impl<R: Drop> Backend<R> {
                 passes,
             }),
         }
+    }
+}
+
+impl<R> Backend<R> {
+    /// Returns the numbers of stored documents and entries. A submission that is being stored may
+    /// not be counted yet. It doesn't wait.
+    ///
+    /// ```
+    /// let counts = backend.counts();
+    /// assert_eq!(rt; (counts.documents, counts.entries), (1, 1));
+    /// ```
+    pub fn counts(&self) -> Counts {
+        self.counts.load()
     }
 }
 

@@ -14,7 +14,9 @@ use crate::jobs::{
     SnapshotAtTimeJob, SubscribeJob, TakeJob, UnsubscribeJob, VersionJob,
 };
 use crate::pass::Pass;
-use sdb_desk::{FetchResult, Look, Outcome, ReplayBase, Reply, SubscribeResult, Work};
+use sdb_desk::{
+    CommitDecision, FetchResult, Look, Outcome, ReplayBase, Reply, SubscribeResult, Work,
+};
 use sdb_oplog::{Code, Entry, Key, Moment, Submission};
 use sdb_submit::{Desk, Gate, submit};
 use sdb_subscribe::SubId;
@@ -53,6 +55,9 @@ impl<R: Wait + Drop> Desk for Backend<R> {
             now,
         };
         let decision = self.run(pass, key, commit);
+        if let CommitDecision::Store { v } = &decision {
+            self.counts.record(*v);
+        }
         work.finish(self.alloc, decision)
     }
 
@@ -68,11 +73,15 @@ impl<R: Wait + Drop> Desk for Backend<R> {
             submission,
             now,
         };
-        self.run(pass, key, commit)
+        let reply = self.run(pass, key, commit);
+        self.counts.record_reply(&reply);
+        reply
     }
 
     fn commit_last(&self, pass: &mut Pass, key: &Key, work: Work, now: Moment) -> Reply {
-        self.run(pass, key, CommitLastJob { key, work, now })
+        let reply = self.run(pass, key, CommitLastJob { key, work, now });
+        self.counts.record_reply(&reply);
+        reply
     }
 
     fn version(&self, pass: &mut Pass, key: &Key) -> u64 {

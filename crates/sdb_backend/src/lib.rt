@@ -9,6 +9,7 @@
 mod audit;
 mod audit_listing;
 mod backend;
+mod counts;
 mod desk;
 mod jobs;
 pub mod laws;
@@ -18,6 +19,7 @@ mod shard_value;
 
 pub use audit::Audit;
 pub use backend::{Backend, CloseError, CloseRefused};
+pub use counts::Counts;
 pub use desk::{submit_is_atomic, take_is_fifo};
 pub use pass::{Host, Pass};
 pub use shard_value::Held;

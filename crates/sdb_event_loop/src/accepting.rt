@@ -2,7 +2,7 @@
 use crate::connection_slot::ConnectionSlot;
 use crate::event_loop::EventLoop;
 use crate::handshake::Handshake;
-use crate::log::log_accept_error;
+use crate::log::{Peer, log_accept_error};
 use crate::loop_pass::PassBrand;
 use mio::net::TcpStream as MioStream;
 use mio::{Interest, Registry, Token};
@@ -30,9 +30,9 @@ impl<R: Net + Wait + Clock + Eprint + Copy + Drop, B: PassBrand> EventLoop<R, B>
             return false;
         }
         match self.listener.accept() {
-            Ok((stream, _)) => {
+            Ok((stream, address)) => {
                 self.context.record_accept(self.number);
-                self.add_connection(registry, stream);
+                self.add_connection(registry, stream, Peer::Connected(address));
                 true
             }
             Err(error) => {
@@ -54,7 +54,7 @@ impl<R: Net + Wait + Clock + Eprint + Copy + Drop, B: PassBrand> EventLoop<R, B>
             _ => {
                 self.accept_after = self.time.second.saturating_add(1);
                 if !self.context.state.set_accept_failing(true) {
-                    log_accept_error(&self.context.rt, error);
+                    log_accept_error(&self.context.rt, self.time.log_time(), error);
                 }
             }
         }
@@ -62,7 +62,7 @@ impl<R: Net + Wait + Clock + Eprint + Copy + Drop, B: PassBrand> EventLoop<R, B>
 
     // Begins the handshake of a connection. The connection is closed if it can't be registered or
     // an allocation fails.
-    fn add_connection(&mut self, registry: &Registry, mut stream: MioStream) {
+    fn add_connection(&mut self, registry: &Registry, mut stream: MioStream, peer: Peer) {
         let key = self.slots.vacant_key();
         let interest = Interest::READABLE | Interest::WRITABLE;
         let is_registered = stream.set_nodelay(true).is_ok()
@@ -70,7 +70,9 @@ impl<R: Net + Wait + Clock + Eprint + Copy + Drop, B: PassBrand> EventLoop<R, B>
         if !is_registered {
             return;
         }
-        let handshake = Handshake::new(self.alloc, stream, self.time.second);
+        let is_proxied = self.context.state.is_proxied();
+        let second = self.time.second;
+        let handshake = Handshake::new(self.alloc, stream, peer, is_proxied, second);
         if self
             .slots
             .insert(ConnectionSlot::Handshake(handshake))

@@ -78,7 +78,9 @@ impl ClosingConnection {
     ) -> Option<ClosingConnection> {
         let mut link = Link::new(alloc, stream);
         link.send(output).ok()?;
-        Some(ClosingConnection::new(link, None, Vec::new(alloc), second, true))
+        let closing = ClosingConnection::new(link, None, Vec::new(alloc), second, true);
+        closing.end_output();
+        Some(closing)
     }
 
     /// Closes a connection without a session. Returns `None` if the connection is lost.
@@ -110,7 +112,16 @@ impl ClosingConnection {
         if self.link.resume()? {
             self.start = second;
         }
+        self.end_output();
         Ok(())
+    }
+
+    // Lets the client read the end of the output once all of it is sent, if its input isn't read as
+    // frames.
+    fn end_output(&self) {
+        if self.websocket.is_none() && !self.link.has_pending_output() {
+            self.link.shut_down();
+        }
     }
 
     /// Returns whether nothing is left to do.

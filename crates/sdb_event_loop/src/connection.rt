@@ -211,6 +211,7 @@ impl<B: PassBrand> Connection<B> {
     pub(crate) fn send(&mut self, time: LoopTime, output: &mut LoopOutput) -> Result<(), SessionEnd>
         ensures { pass_number self.new.pass.pass ≡ pass_number self.old.pass.pass }
     {
+        output.tally.add_sent(output.bytes.len());
         let is_sent = self.link.send(&mut output.bytes).is_ok();
         self.deadlines.record_write(time.second);
         if is_sent {
@@ -260,6 +261,7 @@ impl<B: PassBrand> Connection<B> {
         ensures { let b = context.now.state.value.backend in KeepsPass b self.pass.pass b result.pass.pass }
     {
         let is_answered = self.write_end(end, output);
+        output.tally.add_sent(output.bytes.len());
         let is_sent = self.link.send(&mut output.bytes).is_ok();
         let Connection {
             alloc,

@@ -47,6 +47,7 @@ impl<B: PassBrand> Connection<B> {
             self.partial = std::mem::replace(&mut buffers.spare, empty);
         }
         let bytes = buffers.input.get(..count).unwrap_or(&[]);
+        buffers.output.tally.add_received(bytes.len());
         self.partial.extend_from_slice(bytes)?;
         Ok(())
     }
@@ -103,8 +104,10 @@ impl<B: PassBrand> Connection<B> {
     {
         self.record_message();
         let mut sink = FrameSink::new(&mut self.websocket, &mut output.bytes);
-        let refused = self.session.refuse_unreadable_to(&mut sink);
-        refused?;
+        let answered = self.session.refuse_unreadable_to(&mut sink);
+        let FrameSink { refused, .. } = sink;
+        output.record_message(None, refused);
+        answered?;
         Ok(())
     }
 }
@@ -243,9 +246,11 @@ impl<B: PassBrand> Connection<B> {
         let FrameSink {
             stored,
             subscribed,
+            refused,
             ..
         } = sink;
         self.operations = self.operations.saturating_add(u64::from(stored.is_some()));
+        output.record_message(stored, refused);
         context.notify(stored);
         output.record_subscription(subscribed)?;
         if let MessageProgress::Listing(listing) = begun? {

@@ -1,10 +1,9 @@
 //! The connections of a loop.
 use crate::closing::ClosingConnection;
 use crate::connection::Connection;
-use crate::handshake::Handshake;
+use crate::handshake::{Handshake, WaitingClient};
 use crate::loop_pass::PassBrand;
 use crate::turn::TurnEvents;
-use mio::net::TcpStream as MioStream;
 
 /// A connection of a loop.
 #[derive(Drop)]
@@ -12,7 +11,7 @@ pub(crate) enum ConnectionSlot<B: PassBrand> {
     /// A connection in its handshake.
     Handshake(Handshake),
     /// A client that waits for its pass.
-    Awaiting(MioStream),
+    Awaiting(WaitingClient),
     /// A client that is served.
     Served(Box<Connection<B>>),
     /// A client in its turn, and what events report meanwhile.
@@ -35,10 +34,10 @@ impl<B: PassBrand> ConnectionSlot<B> {
         }
     }
 
-    /// Moves the stream of a client that waits for its pass out of the slot, if it has one.
-    pub(crate) fn take_awaiting(&mut self) -> Option<MioStream> {
+    /// Moves a client that waits for its pass out of the slot, if it has one.
+    pub(crate) fn take_awaiting(&mut self) -> Option<WaitingClient> {
         match std::mem::replace(self, ConnectionSlot::Vacant) {
-            ConnectionSlot::Awaiting(stream) => Some(stream),
+            ConnectionSlot::Awaiting(client) => Some(client),
             other => {
                 *self = other;
                 None

@@ -153,6 +153,10 @@ impl<R: Net + Wait + Clock + Eprint + Copy + Drop, B: PassBrand> EventLoop<R, B>
     pub(crate) fn end_pass(&mut self) {
         self.deliver();
         self.sweep();
+        self.context
+            .state
+            .metrics
+            .add(&mut self.buffers.output.tally);
         self.buffers.output.free_large(self.alloc);
     }
 

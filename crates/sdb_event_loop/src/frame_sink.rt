@@ -1,5 +1,6 @@
 //! A sink that writes answers as frames to an output buffer.
 use crate::document_group::DocumentGroup;
+use sdb_oplog::Code;
 use sdb_session::AnswerSink;
 use sdb_wire::{Answer, reply_text};
 use std::alloc::{AllocError, Global};
@@ -7,7 +8,7 @@ use websocket::error::Error;
 use websocket::protocol::{Message, NoMask, WebSocketContext};
 
 /// A sink that appends each answer to an output buffer as one frame, and records which documents it
-/// names.
+/// names and why a message is refused.
 #[derive(Drop)]
 pub(crate) struct FrameSink<'a> {
     websocket: &'a mut WebSocketContext,
@@ -16,6 +17,8 @@ pub(crate) struct FrameSink<'a> {
     pub(crate) stored: Option<DocumentGroup>,
     /// The group of the document to which the session subscribed.
     pub(crate) subscribed: Option<DocumentGroup>,
+    /// The code of a refusal.
+    pub(crate) refused: Option<Code>,
 }
 
 impl<'a> FrameSink<'a> {
@@ -29,6 +32,7 @@ impl<'a> FrameSink<'a> {
             output,
             stored: None,
             subscribed: None,
+            refused: None,
         }
     }
 
@@ -40,6 +44,7 @@ impl<'a> FrameSink<'a> {
             Answer::Subscribed { key, .. } | Answer::CaughtUp { key } => {
                 self.subscribed = Some(DocumentGroup::of(key.id.as_str()));
             }
+            Answer::Failed { code, .. } => self.refused = Some(*code),
             _ => {}
         }
     }

@@ -1,5 +1,7 @@
 //! Handshakes that don't block.
+use crate::log::Peer;
 use crate::pending_output::{PendingOutput, is_would_block};
+use crate::plain_request::{Page, forwarded_address, page_of};
 use mio::net::TcpStream as MioStream;
 use std::alloc::{AllocError, Global};
 use std::io;
@@ -17,21 +19,13 @@ const READ_LIMIT: usize = 64;
 
 const READ_SIZE: usize = 4096;
 
-/// The answer to a request that isn't a WebSocket handshake.
-pub(crate) const UPGRADE_REQUIRED: &str = "HTTP/1.1 426 Upgrade Required\r\n\
-    Upgrade: websocket\r\n\
-    Connection: Upgrade, close\r\n\
-    Sec-WebSocket-Version: 13\r\n\
-    Content-Type: text/plain\r\n\
-    Content-Length: 62\r\n\
-    \r\n\
-    This is a ShareDB server. Its clients connect by a WebSocket.\n";
-
 /// A connection in its handshake.
 #[derive(Drop)]
 pub(crate) struct Handshake {
     alloc: Global,
     stream: MioStream,
+    peer: Peer,
+    is_proxied: bool,
     request: Vec<u8>,
     reads: usize,
     response: PendingOutput,
@@ -39,25 +33,40 @@ pub(crate) struct Handshake {
     start: u64,
 }
 
+/// A client after its handshake, without a session.
+#[derive(Drop)]
+pub(crate) struct WaitingClient {
+    pub(crate) stream: MioStream,
+    pub(crate) peer: Peer,
+}
+
 /// The state of a handshake.
 #[derive(Drop)]
 pub(crate) enum HandshakeProgress {
     /// The handshake is complete.
-    Complete(MioStream),
+    Complete(WaitingClient),
     /// More input is needed, or output is pending.
     Pending(Handshake),
-    /// The request is no WebSocket handshake.
-    NotUpgrade(MioStream),
+    /// The request is no WebSocket handshake, but asks for this page.
+    NotUpgrade(MioStream, Page),
     /// The client is gone, or an allocation failed.
     Failed,
 }
 
 impl Handshake {
-    /// Begins a handshake.
-    pub(crate) fn new(alloc: Global, stream: MioStream, second: u64) -> Handshake {
+    /// Begins a handshake. If clients connect through a proxy, the request has the client's address.
+    pub(crate) fn new(
+        alloc: Global,
+        stream: MioStream,
+        peer: Peer,
+        is_proxied: bool,
+        second: u64,
+    ) -> Handshake {
         Handshake {
             alloc,
             stream,
+            peer,
+            is_proxied,
             request: Vec::new(alloc),
             reads: 0,
             response: PendingOutput::new(alloc),
@@ -69,10 +78,11 @@ impl Handshake {
     /// Continues the handshake as far as the input permits.
     pub(crate) fn proceed(mut self) -> HandshakeProgress {
         match self.advance() {
-            Ok(true) => HandshakeProgress::Complete(self.into_stream()),
+            Ok(true) => HandshakeProgress::Complete(self.into_client()),
             Ok(false) => HandshakeProgress::Pending(self),
             Err(error) if is_not_upgrade(&error) => {
-                HandshakeProgress::NotUpgrade(self.into_stream())
+                let page = page_of(&self.request);
+                HandshakeProgress::NotUpgrade(self.into_stream(), page)
             }
             Err(_) => HandshakeProgress::Failed,
         }
@@ -81,6 +91,19 @@ impl Handshake {
     fn into_stream(self) -> MioStream {
         let Handshake { stream, .. } = self;
         stream
+    }
+
+    fn into_client(self) -> WaitingClient {
+        let forwarded = match self.is_proxied {
+            true => forwarded_address(&self.request),
+            false => None,
+        };
+        let peer = match forwarded {
+            Some(address) => Peer::Forwarded(address),
+            None => self.peer,
+        };
+        let stream = self.into_stream();
+        WaitingClient { stream, peer }
     }
 
     // Reads the request, and writes the response once it is complete. Returns whether the whole

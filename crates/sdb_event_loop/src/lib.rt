@@ -33,8 +33,10 @@ mod loop_server;
 mod loop_slot;
 mod loop_slots;
 mod loop_threads;
+mod metrics;
 mod pass_supply;
 mod pending_output;
+mod plain_request;
 mod polled_loop;
 mod serving;
 mod session_end;
@@ -47,3 +49,4 @@ pub use listen::listen_on_loops;
 pub use loop_server::{
     DEFAULT_LOOP_CLIENTS, LOOP_CLIENT_LIMIT, LOOP_LIMIT, LoopOptions, LoopServer,
 };
+pub use plain_request::VERSION;

@@ -4,6 +4,7 @@ use mio::net::TcpStream as MioStream;
 use std::alloc::Global;
 use std::io;
 use std::io::{Read, Write};
+use std::net::Shutdown;
 
 /// The outcome of one read.
 #[derive(Clone, Copy, Drop)]
@@ -85,6 +86,12 @@ impl Link {
         let sent = self.pending.send(&mut self.stream, output);
         output.clear();
         sent
+    }
+
+    /// Closes the sending side.
+    pub(crate) fn shut_down(&self) {
+        // (a connection that is lost has no sending side)
+        let _ = self.stream.shutdown(Shutdown::Write);
     }
 
     /// Writes pending output. Returns whether the socket took any.

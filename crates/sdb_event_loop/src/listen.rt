@@ -25,8 +25,9 @@ use std::time::Clock;
 /// [aren't kept](LoopServer::with_passes_kept); with all its other passes they are the argument of
 /// [`Backend::close`](sdb_backend::Backend::close).
 ///
-/// - A client gets its pass after its handshake. A request that is no WebSocket handshake is
-///   answered with status 426.
+/// - A client gets its pass after its handshake. `GET /health` is answered with a line of JSON and
+///   `GET /metrics` with Prometheus' text format, any other request that is no WebSocket handshake
+///   with status 426.
 /// - A client is closed with 1013 (try again later) if as many are served as the options permit, or
 ///   if the host has no passes left.
 /// - At most 64 connections more than clients are open at once. Any other waits to be accepted.

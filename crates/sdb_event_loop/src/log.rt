@@ -1,31 +1,41 @@
 //! The server's messages on standard error.
 use crate::session_end::SessionEnd;
-use mio::net::TcpStream as MioStream;
+use httpdate::HttpDate;
 use std::fmt;
 use std::io::Error;
-use std::net::SocketAddr;
+use std::net::{IpAddr, SocketAddr};
 use websocket::protocol::CloseCode;
 
-/// The address of a client. `Display` writes `unknown` if the system doesn't return it.
+/// The address of a client.
 #[derive(Clone, Copy, Drop)]
-pub(crate) struct Peer {
-    address: Option<SocketAddr>,
-}
-
-impl Peer {
-    /// Returns the address of a connection's client.
-    pub(crate) fn of(stream: &MioStream) -> Peer {
-        Peer {
-            address: stream.peer_addr().ok(),
-        }
-    }
+pub(crate) enum Peer {
+    /// The other end of the connection.
+    Connected(SocketAddr),
+    /// The address that a proxy has forwarded.
+    Forwarded(IpAddr),
 }
 
 impl fmt::Display for Peer {
     fn fmt<W: fmt::Write>(&self, f: &mut fmt::Formatter<W>) -> fmt::Result {
-        match self.address {
-            Some(address) => write!(f, "{address}"),
-            None => f.write_str("unknown"),
+        match self {
+            Peer::Connected(address) => write!(f, "{address}"),
+            Peer::Forwarded(address) => write!(f, "{address}"),
+        }
+    }
+}
+
+/// The time of a line of the log, in milliseconds since the start of 1970. `Display` writes it in
+/// UTC as the IMF-fixdate of RFC 9110, such as `Sun, 29 Nov 2026 08:00:00 GMT`.
+#[derive(Clone, Copy, Drop)]
+pub(crate) struct LogTime {
+    pub(crate) millis: u64,
+}
+
+impl fmt::Display for LogTime {
+    fn fmt<W: fmt::Write>(&self, f: &mut fmt::Formatter<W>) -> fmt::Result {
+        match HttpDate::from_unix_secs(self.millis / 1_000) {
+            Ok(date) => write!(f, "{date}"),
+            Err(_) => f.write_str("unknown time"),
         }
     }
 }
@@ -57,26 +67,26 @@ impl fmt::Display for SessionReport {
 }
 
 /// Logs the start of a session.
-pub(crate) fn log_begin(rt: &impl Eprint, number: u64, peer: Peer) {
-    let _ = eprintln!(rt; "connection {number} begins: source \"s{number}\", peer {peer}");
+pub(crate) fn log_begin(rt: &impl Eprint, time: LogTime, number: u64, peer: Peer) {
+    let _ = eprintln!(rt; "{time} connection {number} begins: source \"s{number}\", peer {peer}");
 }
 
 /// Logs that a client is closed without a session, with this code.
-pub(crate) fn log_refusal(rt: &impl Eprint, code: CloseCode, peer: Peer) {
+pub(crate) fn log_refusal(rt: &impl Eprint, time: LogTime, code: CloseCode, peer: Peer) {
     let why = match code {
         CloseCode::Away => "the server is shutting down",
         CloseCode::Again => "no more clients are served",
         _ => "an allocation failed",
     };
-    let _ = eprintln!(rt; "connection refused: {why}, peer {peer}");
+    let _ = eprintln!(rt; "{time} connection refused: {why}, peer {peer}");
 }
 
 /// Logs the end of a session.
-pub(crate) fn log_end(rt: &impl Eprint, report: &SessionReport) {
-    let _ = eprintln!(rt; "{report}");
+pub(crate) fn log_end(rt: &impl Eprint, time: LogTime, report: &SessionReport) {
+    let _ = eprintln!(rt; "{time} {report}");
 }
 
 /// Logs that no connection can be accepted.
-pub(crate) fn log_accept_error(rt: &impl Eprint, error: &Error) {
-    let _ = eprintln!(rt; "error: accepting a connection failed: {error}");
+pub(crate) fn log_accept_error(rt: &impl Eprint, time: LogTime, error: &Error) {
+    let _ = eprintln!(rt; "{time} error: accepting a connection failed: {error}");
 }

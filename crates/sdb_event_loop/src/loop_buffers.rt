@@ -1,6 +1,8 @@
 //! The buffers of a loop and of a thread, which serve one client at a time.
 use crate::document_group::DocumentGroup;
-use sdb_oplog::Moment;
+use crate::log::LogTime;
+use crate::metrics::Tally;
+use sdb_oplog::{Code, Moment};
 use std::alloc::{AllocError, Global};
 
 // Size in bytes of one read.
@@ -28,14 +30,23 @@ impl LoopTime {
     pub(crate) fn moment(self) -> Moment {
         Moment::saturating_new(self.moment_millis)
     }
+
+    /// Returns the time of lines of the log that are written in the pass.
+    pub(crate) fn log_time(self) -> LogTime {
+        LogTime {
+            millis: self.moment_millis,
+        }
+    }
 }
 
-/// What a client's turn makes: frames to send, and the groups of documents that it names.
+/// What a client's turn makes: frames to send, the groups of documents that it names, and its tally.
 #[derive(Drop)]
 pub(crate) struct LoopOutput {
     pub(crate) bytes: Vec<u8>,
     /// The groups to which a session has subscribed.
     pub(crate) subscribed: Vec<DocumentGroup>,
+    /// What was done since the tally was added to the metrics.
+    pub(crate) tally: Tally,
 }
 
 /// The buffers of a loop or of a thread.
@@ -57,6 +68,7 @@ impl LoopBuffers {
             output: LoopOutput {
                 bytes: Vec::new(alloc),
                 subscribed: Vec::new(alloc),
+                tally: Tally::new(),
             },
         })
     }
@@ -77,6 +89,18 @@ impl LoopOutput {
             self.subscribed.push(group)?;
         }
         Ok(())
+    }
+
+    /// Counts a message, with the group of the document to which its operation was appended, or the
+    /// code of its refusal.
+    pub(crate) fn record_message(&mut self, stored: Option<DocumentGroup>, refused: Option<Code>) {
+        self.tally.add_message();
+        if stored.is_some() {
+            self.tally.add_acknowledgement();
+        }
+        if let Some(code) = refused {
+            self.tally.add_refusal(code);
+        }
     }
 
     /// Frees the memory of a large output.

@@ -6,6 +6,8 @@ ghost use Rattle.sdb_event_loop.specs.LoopModel.{IsHostOfLoops, loops_backend};
 
 use crate::document_group::DocumentGroup;
 use crate::loop_port::LoopPort;
+use crate::metrics::Metrics;
+use crate::plain_request::ServerStatus;
 use sdb_backend::Backend;
 use sdb_projection::Table;
 use std::alloc::{AllocError, Global};
@@ -42,6 +44,7 @@ pub struct LoopServer<R> {
     pub(crate) table: Table,
     options: LoopOptions,
     is_logging: bool,
+    is_proxied: bool,
     is_keeping: bool,
     // Number of clients after which the server is stopped.
     session_limit: Option<u64>,
@@ -59,6 +62,7 @@ pub struct LoopServer<R> {
     // Numbers of clients that were admitted, and whose sessions have ended.
     admitted_count: AtomicU64,
     ended_count: AtomicU64,
+    pub(crate) metrics: Metrics,
     ports: Vec<LoopPort>,
     // The thread that supplies passes parks here.
     supplier: Parker,
@@ -96,6 +100,7 @@ impl<R: Drop> LoopServer<R> {
             table,
             options,
             is_logging: false,
+            is_proxied: false,
             is_keeping: true,
             session_limit: None,
             is_stopped: AtomicBool::new(false),
@@ -107,6 +112,7 @@ impl<R: Drop> LoopServer<R> {
             client_count: AtomicUsize::new(0),
             admitted_count: AtomicU64::new(0),
             ended_count: AtomicU64::new(0),
+            metrics: Metrics::new(),
             ports,
             supplier: Parker::new(),
         })
@@ -118,6 +124,16 @@ impl<R: Drop> LoopServer<R> {
         ensures { loops_backend result ≡ loops_backend self }
     {
         self.is_logging = is_logging;
+        self
+    }
+
+    /// Sets whether clients connect through a proxy, which writes their addresses into
+    /// `X-Forwarded-For`. The log then has the last one of the last such header field, since a client
+    /// can send others. The default is `false`.
+    pub fn with_proxy(mut self, is_proxied: bool) -> LoopServer<R>
+        ensures { loops_backend result ≡ loops_backend self }
+    {
+        self.is_proxied = is_proxied;
         self
     }
 
@@ -162,6 +178,20 @@ impl<R> LoopServer<R> {
 
     pub(crate) fn is_logging(&self) -> bool {
         self.is_logging
+    }
+
+    pub(crate) fn is_proxied(&self) -> bool {
+        self.is_proxied
+    }
+
+    /// Returns the state of the server, which has been listening for this number of seconds.
+    pub(crate) fn status(&self, uptime: u64) -> ServerStatus {
+        ServerStatus {
+            clients: self.client_count.load(Ordering::SeqCst),
+            counts: self.backend.counts(),
+            uptime,
+            tally: self.metrics.load(),
+        }
     }
 
     /// Returns whether the passes of ended sessions are kept.

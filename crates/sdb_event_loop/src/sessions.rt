@@ -3,11 +3,11 @@ use crate::connection::{Connection, EndedConnection, session_of};
 use crate::connection_slot::ConnectionSlot;
 use crate::document_group::DocumentGroup;
 use crate::event_loop::EventLoop;
+use crate::handshake::WaitingClient;
 use crate::log::{Peer, SessionReport, log_begin, log_end};
 use crate::loop_pass::{LoopPass, PassBrand};
 use crate::loop_port::LoopPort;
 use crate::session_end::SessionEnd;
-use mio::net::TcpStream as MioStream;
 use std::net::Net;
 use std::sync::Wait;
 use std::time::Clock;
@@ -37,54 +37,55 @@ impl<R: Net + Wait + Clock + Eprint + Copy + Drop, B: PassBrand> EventLoop<R, B>
         }
         let awaiting = std::mem::replace(&mut self.awaiting, Vec::new(self.alloc));
         for key in awaiting {
-            if let Some(stream) = self.take_awaiting(key) {
-                self.start_or_await(key, stream);
+            if let Some(client) = self.take_awaiting(key) {
+                self.start_or_await(key, client);
             }
         }
     }
 
-    fn start_or_await(&mut self, key: usize, stream: MioStream) {
+    fn start_or_await(&mut self, key: usize, client: WaitingClient) {
         let has_room = self
             .passes
             .reserve(self.session_count.saturating_add(1))
             .is_ok();
         if !has_room {
-            self.refuse_client(key, stream, CloseCode::Error);
+            self.refuse_client(key, client, CloseCode::Error);
             return;
         }
         let is_failing = self.context.supply.is_failing();
         match self.context.pop_pass() {
-            Some(pass) => self.start_session(key, stream, pass),
-            None if is_failing => self.refuse_client(key, stream, CloseCode::Again),
-            None => self.await_pass(key, stream),
+            Some(pass) => self.start_session(key, client, pass),
+            None if is_failing => self.refuse_client(key, client, CloseCode::Again),
+            None => self.await_pass(key, client),
         }
     }
 
     // Starts a session with this pass.
-    fn start_session(&mut self, key: usize, stream: MioStream, pass: LoopPass<B>) {
+    fn start_session(&mut self, key: usize, client: WaitingClient, pass: LoopPass<B>) {
         let number = pass.number();
+        let peer = client.peer;
         if self.context.state.is_logging() {
-            log_begin(&self.context.rt, number, Peer::of(&stream));
+            log_begin(&self.context.rt, self.time.log_time(), number, peer);
         }
         let Ok(session) = session_of(self.alloc, number) else {
             self.log_report(&failed_report(number));
             self.keep_pass(pass);
-            self.refuse_client(key, stream, CloseCode::Error);
+            self.refuse_client(key, client, CloseCode::Error);
             return;
         };
-        let connection = Connection::new(self.alloc, stream, pass, session, self.time);
+        let connection = Connection::new(self.alloc, client.stream, pass, session, self.time);
         match Box::new(self.alloc, connection) {
             Ok(connection) => self.open_connection(key, connection),
-            Err(failed) => self.refuse_connection(key, failed.value),
+            Err(failed) => self.refuse_connection(key, failed.value, peer),
         }
     }
 
     // Refuses a client whose session could not be created.
-    fn refuse_connection(&mut self, key: usize, connection: Connection<B>) {
+    fn refuse_connection(&mut self, key: usize, connection: Connection<B>, peer: Peer) {
         let (stream, pass) = connection.into_parts();
         self.log_report(&failed_report(pass.number()));
         self.keep_pass(pass);
-        self.refuse_client(key, stream, CloseCode::Error);
+        self.refuse_client(key, WaitingClient { stream, peer }, CloseCode::Error);
     }
 
     // Sends the opening message.
@@ -133,7 +134,7 @@ impl<R: Net + Wait + Clock + Eprint + Copy + Drop, B: PassBrand> EventLoop<R, B>
 
     fn log_report(&self, report: &SessionReport) {
         if self.context.state.is_logging() {
-            log_end(&self.context.rt, report);
+            log_end(&self.context.rt, self.time.log_time(), report);
         }
     }
 

@@ -72,8 +72,8 @@ impl<R: Net + Wait + Clock + Eprint + Copy + Drop, B: PassBrand> EventLoop<R, B>
 
     // Closes a client that waits for a pass.
     fn refuse_awaiting(&mut self, key: usize) {
-        if let Some(stream) = self.take_awaiting(key) {
-            self.refuse_client(key, stream, CloseCode::Away);
+        if let Some(client) = self.take_awaiting(key) {
+            self.refuse_client(key, client, CloseCode::Away);
         }
     }
 

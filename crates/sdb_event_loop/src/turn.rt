@@ -75,6 +75,7 @@ impl<B: PassBrand> Turn<B> {
         if outcome.is_err() {
             connection.send_rest(time, &mut buffers.output);
         }
+        context.state.metrics.add(&mut buffers.output.tally);
         let subscribed = buffers.output.take_subscribed(alloc);
         buffers.output.free_large(alloc);
         EndedTurn {

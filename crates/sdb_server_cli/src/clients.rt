@@ -43,6 +43,8 @@ pub struct ServeOptions {
     pub clients: Option<usize>,
     /// Whether the start and the end of each session are logged.
     pub is_logging: bool,
+    /// Whether the log has the addresses of clients that a proxy forwards.
+    pub is_proxied: bool,
 }
 
 impl ServeOptions {
@@ -193,7 +195,8 @@ fn loop_server<R: AllocGlobal + Threads + Drop>(
     let alloc = rt.alloc();
     let state = LoopServer::new(alloc, backend, table, options.loop_options(rt))?;
     let logging = state.with_log(options.is_logging);
-    let limited = logging.with_session_limit(limit);
+    let proxied = logging.with_proxy(options.is_proxied);
+    let limited = proxied.with_session_limit(limit);
     let keeping = limited.with_passes_kept(is_closing);
     Ok(Arc::new(alloc, keeping)?)
 }

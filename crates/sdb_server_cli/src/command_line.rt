@@ -4,7 +4,7 @@ use crate::projection_option::{ProjectionOptionError, table_of};
 use clap::builder::ValueParser;
 use clap::{Arg, ArgAction, ArgGroup, ArgMatches, Command, Error};
 use sdb_cli::{STATUS_OK, exit_status, print_help_or_error, print_refusal};
-use sdb_event_loop::{LOOP_CLIENT_LIMIT, LOOP_LIMIT};
+use sdb_event_loop::{LOOP_CLIENT_LIMIT, LOOP_LIMIT, VERSION};
 use sdb_lines::{CountingReader, CountingWriter, RunFault};
 use sdb_projection::{Table, TableFault};
 use sdb_server::{LineSession, SystemClock, run_lines};
@@ -16,9 +16,6 @@ use std::net::{Net, SocketAddr, TcpListener, TcpStream};
 use std::sync::Wait;
 use std::thread::Threads;
 use std::time::Clock;
-
-// The version that `--version` prints.
-const VERSION: &str = "1.0.0";
 
 // The maximum of `--connections`.
 const CONNECTION_LIMIT: u64 = 1_000_000;
@@ -35,6 +32,7 @@ fn command<'a>(alloc: Global) -> Result<Command<'a>, AllocError> {
     let until_eof = until_eof_option(alloc)?;
     let dump = dump_option(alloc)?;
     let log = log_option(alloc)?;
+    let proxy = proxy_option(alloc)?;
     let loops = number_option(alloc, "loops", LOOPS_HELP, LOOP_LIMIT as u64)?;
     let clients = number_option(alloc, "clients", CLIENTS_HELP, LOOP_CLIENT_LIMIT as u64)?;
     let job = job_group(alloc)?;
@@ -47,6 +45,7 @@ fn command<'a>(alloc: Global) -> Result<Command<'a>, AllocError> {
         .arg(until_eof)?
         .arg(dump)?
         .arg(log)?
+        .arg(proxy)?
         .arg(loops)?
         .arg(clients)?
         .arg(projection_option(alloc))?
@@ -111,6 +110,14 @@ fn log_option<'a>(alloc: Global) -> Result<Arg<'a>, AllocError> {
         .help("With --listen, log connections to standard error")
         .action(ArgAction::SetTrue);
     log.requires_arg("listen")?.conflicts_with("lines")
+}
+
+fn proxy_option<'a>(alloc: Global) -> Result<Arg<'a>, AllocError> {
+    let proxy = Arg::new(alloc, "proxy")
+        .long("proxy")
+        .help("With --log, take the clients' addresses from X-Forwarded-For, as a proxy writes it")
+        .action(ArgAction::SetTrue);
+    proxy.requires_arg("log")
 }
 
 fn projection_option<'a>(alloc: Global) -> Arg<'a> {
@@ -186,6 +193,7 @@ fn parse_job(matches: &ArgMatches<'_>) -> Option<RunMode> {
             loops: parse_number(matches, "loops"),
             clients: parse_number(matches, "clients"),
             is_logging: matches.get_flag("log"),
+            is_proxied: matches.get_flag("proxy"),
         },
     })
 }

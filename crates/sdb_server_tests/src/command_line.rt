@@ -1,17 +1,19 @@
 //! Tests of command lines, their output and the exit statuses of runs.
+use crate::clients::{FIRST_INIT, open_session};
+use crate::connections::close_session;
 use sdb_cli::terminal::{TerminalBuffer, argument_list};
 use sdb_cli::{STATUS_FAULT, STATUS_OK, STATUS_USAGE};
 use sdb_projection::{Projection, Table, TableFault};
 use sdb_server::ListClock;
 use sdb_server_cli::{
     Options, ParsedArgs, ProjectionOptionError, RunMode, ServeOptions, StopCondition, answer_input,
-    parse_options, parse_run, run, serve_until_end, table_of,
+    parse_options, parse_run, run, serve_at, serve_until_end, table_of,
 };
 use std::alloc::Global;
 use std::fmt::Display;
-use std::io;
 use std::net::TcpListener;
 use std::process::Abort;
+use std::{io, thread};
 
 fn split_words(rt: &impl Abort, alloc: Global, line: &str) -> Vec<String> {
     argument_list(alloc, line).expect(rt, "out of memory")
@@ -36,14 +38,26 @@ fn projections_are_parsed(rt: HostRuntime) {
     assert!(rt; field_count(&table, "t") == Some(2) && field_count(&table, "u") == Some(1));
 }
 
-// Returns the port, the stop condition and the log flag of a command line with `--listen`.
-fn parse_listen(rt: &impl Abort, alloc: Global, line: &str) -> Option<(u16, StopCondition, bool)> {
+// Returns whether the log has forwarded addresses, or `None` without a log.
+fn log_of(options: ServeOptions) -> Option<bool> {
+    match options.is_logging {
+        true => Some(options.is_proxied),
+        false => None,
+    }
+}
+
+// Returns the port, the stop condition and the log of a command line with `--listen`.
+fn parse_listen(
+    rt: &impl Abort,
+    alloc: Global,
+    line: &str,
+) -> Option<(u16, StopCondition, Option<bool>)> {
     match parse(rt, alloc, line)?.job? {
         RunMode::Listen {
             address,
             until,
             options,
-        } => Some((address.port(), until, options.is_logging)),
+        } => Some((address.port(), until, log_of(options))),
         RunMode::Lines => None,
     }
 }
@@ -53,38 +67,43 @@ fn addresses_and_stop_conditions_are_parsed(rt: HostRuntime) {
     for (line, wanted) in [
         (
             "sdb_server --listen 127.0.0.1:8080 --connections 2",
-            Some((8080, StopCondition::Served(2), false)),
+            Some((8080, StopCondition::Served(2), None)),
         ),
         ("sdb_server --listen nowhere --connections 2", None),
         (
             "sdb_server --listen 127.0.0.1:0",
-            Some((0, StopCondition::Never, false)),
+            Some((0, StopCondition::Never, None)),
         ),
         (
             "sdb_server --listen 127.0.0.1:0 --log",
-            Some((0, StopCondition::Never, true)),
+            Some((0, StopCondition::Never, Some(false))),
         ),
         (
             "sdb_server --until-eof --log --listen 127.0.0.1:0",
-            Some((0, StopCondition::Eof { is_dumping: false }, true)),
+            Some((0, StopCondition::Eof { is_dumping: false }, Some(false))),
         ),
         (
             "sdb_server --dump --until-eof --listen 127.0.0.1:0",
-            Some((0, StopCondition::Eof { is_dumping: true }, false)),
+            Some((0, StopCondition::Eof { is_dumping: true }, None)),
         ),
+        (
+            "sdb_server --listen 127.0.0.1:0 --log --proxy",
+            Some((0, StopCondition::Never, Some(true))),
+        ),
+        ("sdb_server --listen 127.0.0.1:0 --proxy", None),
         ("sdb_server --listen 127.0.0.1:0 --dump", None),
         ("sdb_server --listen 127.0.0.1:0 --connections 0", None),
         (
             "sdb_server --listen 127.0.0.1:0 --connections 1",
-            Some((0, StopCondition::Served(1), false)),
+            Some((0, StopCondition::Served(1), None)),
         ),
         (
             "sdb_server --listen 127.0.0.1:0 --connections 1001",
-            Some((0, StopCondition::Served(1_001), false)),
+            Some((0, StopCondition::Served(1_001), None)),
         ),
         (
             "sdb_server --listen 127.0.0.1:0 --connections 1000000",
-            Some((0, StopCondition::Served(1_000_000), false)),
+            Some((0, StopCondition::Served(1_000_000), None)),
         ),
         (
             "sdb_server --listen 127.0.0.1:0 --connections 1000001",
@@ -273,6 +292,8 @@ const OPTIONS: [&str; 12] = [
     "With --until-eof, write a dump of all logs at exit",
     "--log",
     "With --listen, log connections to standard error",
+    "--proxy",
+    "With --log, take the clients' addresses from X-Forwarded-For",
     "--projection <NAME=COLLECTION:FIELD,..>",
     "Project these fields of a collection under another name",
 ];
@@ -301,10 +322,38 @@ fn a_server_ends_at_the_end_of_its_input(rt: HostRuntime) {
         loops: None,
         clients: None,
         is_logging: false,
+        is_proxied: false,
     };
     let table = Table::new(rt.alloc());
     let status = serve_until_end(rt, listener, TWO_LINES, options, true, table);
     assert!(rt; status.ok() == Some(STATUS_OK));
+}
+
+// Logs too.
+#[test]
+fn a_server_ends_after_its_number_of_sessions(rt: HostRuntime) {
+    let alloc = rt.alloc();
+    let listener = TcpListener::bind(&rt, "127.0.0.1:0").expect(&rt, "a port");
+    let address = listener.local_addr().expect(&rt, "an address");
+    let client = thread::spawn(&rt, move || {
+        close_session(&rt, open_session(&rt, rt, alloc, address, FIRST_INIT));
+    });
+    let client = client.expect(&rt, "a thread");
+    let options = ServeOptions {
+        loops: Some(1),
+        clients: None,
+        is_logging: true,
+        is_proxied: true,
+    };
+    let status = serve_at(
+        rt,
+        listener,
+        StopCondition::Served(1),
+        options,
+        Table::new(alloc),
+    );
+    assert!(rt; status.ok() == Some(STATUS_OK));
+    client.join(&rt);
 }
 
 #[test]

@@ -150,7 +150,7 @@ fn open_session_with_retry(
 }
 
 // Closes a connection, and waits until the server has closed it too.
-fn close_session(abort: &impl Abort, mut client: Client) {
+pub(crate) fn close_session(abort: &impl Abort, mut client: Client) {
     assert!(abort; client.close(None).is_ok());
     for _ in 0..TRY_LIMIT {
         if client.read().is_err() {
@@ -259,13 +259,19 @@ fn send_many_requests(
     }
 }
 
-const PLAIN_REQUEST: &[u8] = b"GET / HTTP/1.1\r\nHost: localhost\r\n\r\n";
-
-// Returns the response to an HTTP request without an upgrade.
-fn plain_answer(abort: &impl Abort, rt: HostRuntime, alloc: Global, address: SocketAddr) -> String {
+// Returns the response to an HTTP request for a path without an upgrade.
+fn plain_answer(
+    abort: &impl Abort,
+    rt: HostRuntime,
+    alloc: Global,
+    address: SocketAddr,
+    path: &str,
+) -> String {
     let mut stream = connect_tcp(abort, rt, address);
+    let request = format!(in alloc; "GET {path} HTTP/1.1\r\nHost: localhost\r\n\r\n");
+    let request = request.expect(abort, "out of memory");
     assert!(abort;
-        stream.write_all(PLAIN_REQUEST).is_ok() && stream.shutdown(Shutdown::Write).is_ok()
+        stream.write_all(request.as_bytes()).is_ok() && stream.shutdown(Shutdown::Write).is_ok()
     );
     io::read_to_string(alloc, stream).expect(abort, "an answer")
 }
@@ -277,7 +283,7 @@ pub(crate) fn expect_upgrade_required(
     alloc: Global,
     address: SocketAddr,
 ) {
-    let answer = plain_answer(abort, rt, alloc, address);
+    let answer = plain_answer(abort, rt, alloc, address, "/");
     let parts = answer.as_str().split_once("\r\n\r\n");
     let (head, body) = parts.expect(abort, "the end of the head");
     let length = format!(in alloc; "Content-Length: {}", body.len()).expect(abort, "out of memory");
@@ -285,6 +291,43 @@ pub(crate) fn expect_upgrade_required(
     let is_refused = head.lines().next() == Some("HTTP/1.1 426 Upgrade Required");
     let is_named = head.contains("\r\nUpgrade: websocket\r\n");
     assert!(abort; is_explained && is_refused && is_named && head.contains(length.as_str()));
+}
+
+// The body of `/health` for one client and two stored operations, up to the number of seconds.
+const HEALTH: &str = r#"{"version":"1.0.0","clients":1,"documents":1,"entries":2,"uptime":"#;
+
+// Lines of `/metrics` in this state.
+const METRICS: [&str; 3] = [
+    "navirotsohy_documents 1\n",
+    "navirotsohy_entries 2\n",
+    "navirotsohy_refusals_total{code=\"ERR_LIMIT\"} 0\n",
+];
+
+// A submission that is sent twice counts once.
+pub(crate) fn expect_pages(
+    abort: &impl Abort,
+    rt: HostRuntime,
+    alloc: Global,
+    address: SocketAddr,
+    client: &mut Client,
+) {
+    exchange(
+        abort,
+        alloc,
+        client,
+        &[(CREATE, CREATED), (CREATE, CREATED), (EDIT, EDITED)],
+    );
+    let health = plain_answer(abort, rt, alloc, address, "/health");
+    let parts = health.as_str().split_once("\r\n\r\n");
+    let (head, body) = parts.expect(abort, "the end of the head");
+    assert!(abort;
+        head.starts_with("HTTP/1.1 200 OK\r\n") && body.starts_with(HEALTH),
+        "{body}"
+    );
+    let metrics = plain_answer(abort, rt, alloc, address, "/metrics");
+    for line in METRICS {
+        assert!(abort; metrics.as_str().contains(line), "{line}");
+    }
 }
 
 // Connections without bytes or without a handshake do not count as sessions.
@@ -298,6 +341,7 @@ fn connect_without_handshake(
     expect_upgrade_required(abort, rt, alloc, address);
     let mut client = open_session(abort, rt, alloc, address, FIRST_INIT);
     exchange(abort, alloc, &mut client, &[(FETCH, FETCHED)]);
+    expect_pages(abort, rt, alloc, address, &mut client);
     close_session(abort, client);
     drop(silent);
 }

@@ -5,7 +5,7 @@ ghost use Rattle.sdb_backend.specs.PassModel.{pass_number, IsHostOfBackend, IsPa
 use crate::helpers::{counter_of, create_counter, increment, key, stored_version, submission};
 use crate::submit::TryRecorder;
 use sdb_backend::{
-    Audit, Backend, CloseError, CloseRefused, Host, Pass, submit_is_atomic, take_is_fifo,
+    Audit, Backend, CloseError, CloseRefused, Counts, Host, Pass, submit_is_atomic, take_is_fifo,
 };
 use sdb_desk::Reply;
 use sdb_oplog::{Content, Entry, Key, Log, Moment, Submission};
@@ -299,6 +299,30 @@ fn two_passes_are_compared(rt: HostRuntime) {
     backend.compare(&mut first, &mut second, &key);
     backend.forget(&mut first, &key);
     assert!(rt; fetch_counter(&rt, &backend, &mut first, &key) == Some(1));
+}
+
+// A duplicate isn't counted, and the second entry counts no document.
+#[test]
+fn stored_documents_and_entries_are_counted(rt: HostRuntime) {
+    let alloc = rt.alloc();
+    let TestBackend {
+        backend,
+        mut first,
+        mut second,
+        ..
+    } = open_backend(&rt, alloc, rt);
+    let (key, other) = (key(&rt, alloc, "1"), key(&rt, alloc, "2"));
+    create(&rt, alloc, &backend, &mut first, &key);
+    create(&rt, alloc, &backend, &mut second, &other);
+    let edit = submission_of_pass(&rt, alloc, &first, 2, None, increment(&rt, alloc, 1));
+    let stored = backend.commit_now(&mut first, &key, &edit, Moment::zero());
+    let repeated = backend.commit_now(&mut first, &key, &edit, Moment::zero());
+    assert!(rt; stored_version(&stored).is_some() && stored_version(&repeated).is_none());
+    let counts = Counts {
+        documents: 2,
+        entries: 3,
+    };
+    assert!(rt; backend.counts() == counts);
 }
 
 fn is_entry_of(entry: &Entry, source: &str, seq: u64) -> bool {

@@ -22,7 +22,12 @@ pub fn refusal_code(code: Code) -> Result<Code, AllocError>
     }
 }
 
-pub(crate) fn code_name(code: Code) -> &'static str
+/// Returns the name of a code, as an error reply has it.
+///
+/// ```
+/// assert_eq!(rt; code_name(Code::E4), "ERR_OP_VERSION_NEWER_THAN_CURRENT_SNAPSHOT");
+/// ```
+pub fn code_name(code: Code) -> &'static str
     ensures { result.now ≡ code_name code }
 {
     match code {

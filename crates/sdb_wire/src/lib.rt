@@ -10,7 +10,7 @@ mod operations;
 mod read;
 mod write;
 
-pub use codes::refusal_code;
+pub use codes::{code_name, refusal_code};
 pub use entries::entry_value;
 pub use fields::{count_field, moment_of, optional_count, optional_moment, required_name};
 pub use members::{write_count, write_text};
