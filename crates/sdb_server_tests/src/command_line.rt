@@ -281,7 +281,7 @@ fn a_refused_command_line_is_printed_on_standard_error(rt: HostRuntime) {
 }
 
 // The options and their texts in the help.
-const OPTIONS: [&str; 12] = [
+const OPTIONS: [&str; 14] = [
     "--lines",
     "--listen <ADDR>",
     "--connections <N>",
