@@ -1,16 +1,17 @@
 -- Send of the values that the threads of loops share and return.
 use denote.RattleType.{RattleType}
 use denote.Param.Send.{IsSend, IsSync, sendable}
-use denote.Param.SendFields.{declared_send, declared_sync, variants_send}
+use denote.Param.SendFields.{as_row_send, as_row_sync, declared_send, declared_sync, variants_send}
+use denote.Struct.Field.{row_field}
 use Rattle.std.proofs.Crossing.{crosses}
 use Rattle.std.proofs.MapsCrossing as maps
 use Rattle.mio.specs.contracts.waker.Waker as Waker
 use Rattle.mio.specs.contracts.net.listener.TcpListener as TcpListener
 use Rattle.mio.specs.contracts.net.stream.TcpStream as TcpStream
-use Rattle.sdb_projection.specs.contracts.table.Table as Table
 use Rattle.sdb_backend.proofs.SendSync.{Backend-send, Backend-sync, Pass-send}
 use Rattle.sdb_event_loop.specs.declared.loop_pass.PassBrand as brand
 use Rattle.sdb_event_loop.specs.contracts.loop_port.LoopPort as LoopPort
+use Rattle.sdb_event_loop.specs.contracts.metrics.Metrics as Metrics
 use Rattle.sdb_event_loop.specs.contracts.loop_server.LoopServer as LoopServer
 use Rattle.sdb_event_loop.specs.contracts.handshake.Handshake as Handshake
 use Rattle.sdb_event_loop.specs.contracts.closing.ClosingConnection as ClosingConnection
@@ -31,12 +32,6 @@ use Rattle.sdb_event_loop.specs.contracts.loop_slots.LoopSlots as LoopSlots
 use Rattle.sdb_session.specs.contracts.session.Session as Session
 use Rattle.sdb_session.specs.contracts.listing.Listing as Listing
 
-Table-send : IsSend Table.the_row
-Table-send = search (sendable, crosses, maps.crosses) depth 20
-
-Table-sync : IsSync Table.the_row
-Table-sync = search (sendable, crosses, maps.crosses) depth 20
-
 Waker-send : IsSend Waker.the_row
 Waker-send = search (sendable, crosses) depth 20
 
@@ -52,12 +47,18 @@ LoopPort-send = declared_send LoopPort.the_type (search (crosses, sendable, Wake
 LoopPort-sync : IsSync LoopPort.the_row
 LoopPort-sync = declared_sync LoopPort.the_type (search (crosses, sendable, Waker-send) depth 12)
 
-module _ (R : RattleType) where
-  pub LoopServer-send : IsSend R → IsSend (LoopServer.the_row R)
-  LoopServer-send s = declared_send (LoopServer.the_type R) (Backend-send R s, (Table-send, search (crosses, sendable, LoopPort-send) depth 20))
+Metrics-send : IsSend Metrics.the_row
+Metrics-send = declared_send Metrics.the_type (search (crosses, sendable) depth 20)
 
-  pub LoopServer-sync : IsSync R → IsSync (LoopServer.the_row R)
-  LoopServer-sync y = declared_sync (LoopServer.the_type R) (Backend-sync R y, (Table-sync, search (crosses, sendable, LoopPort-sync) depth 20))
+Metrics-sync : IsSync Metrics.the_row
+Metrics-sync = declared_sync Metrics.the_type (search (crosses, sendable) depth 20)
+
+module _ (R P : RattleType) where
+  pub LoopServer-send : IsSend R → IsSend P → IsSend (LoopServer.the_row R P)
+  LoopServer-send s p = declared_send (LoopServer.the_type R P) (Backend-send R s, (as_row_send (row_field P) p, search (crosses, sendable, LoopPort-send, Metrics-send) depth 20))
+
+  pub LoopServer-sync : IsSync R → IsSync P → IsSync (LoopServer.the_row R P)
+  LoopServer-sync y q = declared_sync (LoopServer.the_type R P) (Backend-sync R y, (as_row_sync (row_field P) q, search (crosses, sendable, LoopPort-sync, Metrics-sync) depth 20))
 
 Session-send : IsSend Session.the_row
 Session-send = declared_send Session.the_type (search (sendable, crosses, maps.crosses) depth 40)
@@ -112,27 +113,27 @@ module _ (B : RattleType) (g : brand.Ghosts B.Denot) where
   PassSupply-sync : IsSend B → IsSync (PassSupply.the_row B g)
   PassSupply-sync b = declared_sync (PassSupply.the_type B g) (search (sendable, crosses, LoopPass-send) depth 40)
 
-module _ (R B : RattleType) (g : brand.Ghosts B.Denot) where
-  LoopContext-send : IsSend R → IsSync R → IsSend B → IsSend (LoopContext.the_row R B g)
-  LoopContext-send s y b = declared_send (LoopContext.the_type R B g) (search (sendable, crosses, LoopServer-send, LoopServer-sync, PassSupply-send, PassSupply-sync) depth 40)
+module _ (R P B : RattleType) (g : brand.Ghosts B.Denot) where
+  LoopContext-send : IsSend R → IsSync R → IsSend P → IsSync P → IsSend B → IsSend (LoopContext.the_row R P B g)
+  LoopContext-send s y p q b = declared_send (LoopContext.the_type R P B g) (search (sendable, crosses, LoopServer-send, LoopServer-sync, PassSupply-send, PassSupply-sync) depth 40)
 
-  EventLoop-send : IsSend R → IsSync R → IsSend B → IsSend (EventLoop.the_row R B g)
-  EventLoop-send s y b = declared_send (EventLoop.the_type R B g) (search (sendable, crosses, LoopContext-send, TcpListener-send, TcpListener-sync, ConnectionSlot-send, LoopBuffers-send, LoopPass-send) depth 60)
+  EventLoop-send : IsSend R → IsSync R → IsSend P → IsSync P → IsSend B → IsSend (EventLoop.the_row R P B g)
+  EventLoop-send s y p q b = declared_send (EventLoop.the_type R P B g) (search (sendable, crosses, LoopContext-send, TcpListener-send, TcpListener-sync, ConnectionSlot-send, LoopBuffers-send, LoopPass-send) depth 60)
 
-  PolledLoop-send : IsSend R → IsSync R → IsSend B → IsSend (PolledLoop.the_row R B g)
-  PolledLoop-send s y b = declared_send (PolledLoop.the_type R B g) (search (sendable, crosses, EventLoop-send) depth 40)
+  PolledLoop-send : IsSend R → IsSync R → IsSend P → IsSync P → IsSend B → IsSend (PolledLoop.the_row R P B g)
+  PolledLoop-send s y p q b = declared_send (PolledLoop.the_type R P B g) (search (sendable, crosses, EventLoop-send) depth 40)
 
-  LoopSlot-send : IsSend R → IsSync R → IsSend B → IsSend (LoopSlot.the_row R B g)
-  LoopSlot-send s y b = declared_send (LoopSlot.the_type R B g) (search (sendable, crosses, PolledLoop-send, EndedTurn-send) depth 40)
+  LoopSlot-send : IsSend R → IsSync R → IsSend P → IsSync P → IsSend B → IsSend (LoopSlot.the_row R P B g)
+  LoopSlot-send s y p q b = declared_send (LoopSlot.the_type R P B g) (search (sendable, crosses, PolledLoop-send, EndedTurn-send) depth 40)
 
-  LoopSlot-sync : IsSend R → IsSync R → IsSend B → IsSync (LoopSlot.the_row R B g)
-  LoopSlot-sync s y b = declared_sync (LoopSlot.the_type R B g) (search (sendable, crosses, PolledLoop-send, EndedTurn-send) depth 40)
+  LoopSlot-sync : IsSend R → IsSync R → IsSend P → IsSync P → IsSend B → IsSync (LoopSlot.the_row R P B g)
+  LoopSlot-sync s y p q b = declared_sync (LoopSlot.the_type R P B g) (search (sendable, crosses, PolledLoop-send, EndedTurn-send) depth 40)
 
-  pub LoopSlots-send : IsSend R → IsSync R → IsSend B → IsSend (LoopSlots.the_row R B g)
-  LoopSlots-send s y b = declared_send (LoopSlots.the_type R B g) (search (sendable, crosses, LoopSlot-send, LoopPass-send) depth 40)
+  pub LoopSlots-send : IsSend R → IsSync R → IsSend P → IsSync P → IsSend B → IsSend (LoopSlots.the_row R P B g)
+  LoopSlots-send s y p q b = declared_send (LoopSlots.the_type R P B g) (search (sendable, crosses, LoopSlot-send, LoopPass-send) depth 40)
 
-  pub LoopSlots-sync : IsSend R → IsSync R → IsSend B → IsSync (LoopSlots.the_row R B g)
-  LoopSlots-sync s y b = declared_sync (LoopSlots.the_type R B g) (search (sendable, crosses, LoopSlot-sync, LoopPass-send) depth 40)
+  pub LoopSlots-sync : IsSend R → IsSync R → IsSend P → IsSync P → IsSend B → IsSync (LoopSlots.the_row R P B g)
+  LoopSlots-sync s y p q b = declared_sync (LoopSlots.the_type R P B g) (search (sendable, crosses, LoopSlot-sync, LoopPass-send) depth 40)
 
-  pub LoopRunner-send : IsSend R → IsSync R → IsSend B → IsSend (LoopRunner.the_row R B g)
-  LoopRunner-send s y b = declared_send (LoopRunner.the_type R B g) (search (sendable, crosses, LoopContext-send, LoopSlots-send, LoopSlots-sync, LoopBuffers-send) depth 40)
+  pub LoopRunner-send : IsSend R → IsSync R → IsSend P → IsSync P → IsSend B → IsSend (LoopRunner.the_row R P B g)
+  LoopRunner-send s y p q b = declared_send (LoopRunner.the_type R P B g) (search (sendable, crosses, LoopContext-send, LoopSlots-send, LoopSlots-sync, LoopBuffers-send) depth 40)

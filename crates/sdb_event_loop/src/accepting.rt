@@ -6,12 +6,17 @@ use crate::log::{Peer, log_accept_error};
 use crate::loop_pass::PassBrand;
 use mio::net::TcpStream as MioStream;
 use mio::{Interest, Registry, Token};
+use sdb_session::Policy;
 use std::io::{Error, ErrorKind};
 use std::net::Net;
 use std::sync::Wait;
 use std::time::Clock;
 
-impl<R: Net + Wait + Clock + Eprint + Copy + Drop, B: PassBrand> EventLoop<R, B> {
+impl<R: Net + Wait + Clock + Eprint + Copy + Drop, P: Policy + Drop, B: PassBrand> EventLoop<
+    R,
+    P,
+    B,
+> {
     // Returns whether this loop may accept a connection.
     fn may_accept(&self) -> bool {
         let state = &self.context.state;

@@ -7,12 +7,17 @@ use crate::log::log_refusal;
 use crate::loop_pass::PassBrand;
 use crate::plain_request::{Page, write_page};
 use mio::net::TcpStream as MioStream;
+use sdb_session::Policy;
 use std::net::Net;
 use std::sync::Wait;
 use std::time::Clock;
 use websocket::protocol::CloseCode;
 
-impl<R: Net + Wait + Clock + Eprint + Copy + Drop, B: PassBrand> EventLoop<R, B> {
+impl<R: Net + Wait + Clock + Eprint + Copy + Drop, P: Policy + Drop, B: PassBrand> EventLoop<
+    R,
+    P,
+    B,
+> {
     // Moves the handshake out of its slot.
     fn take_handshake(&mut self, key: usize) -> Option<Handshake> {
         self.slots.get_mut(key)?.take_handshake()

@@ -14,7 +14,7 @@ use crate::loop_context::LoopContext;
 use crate::loop_pass::{LoopPass, PassBrand};
 use crate::session_end::{SessionEnd, configuration};
 use mio::net::TcpStream as MioStream;
-use sdb_session::{Listing, Session};
+use sdb_session::{Listing, Policy, Session};
 use std::alloc::{AllocError, Global};
 use std::sync::Wait;
 use websocket::protocol::{CloseCode, Message, NoMask, Role, WebSocketContext};
@@ -251,9 +251,9 @@ impl<B: PassBrand> Connection<B> {
 impl<B: PassBrand> Connection<B> {
     /// Ends the session, and sends what the client receives at its end. The session's queues are
     /// closed.
-    pub(crate) fn end<R: Wait + Drop>(
+    pub(crate) fn end<R: Wait + Drop, P: Policy + Drop>(
         mut self,
-        context: &LoopContext<R, B>,
+        context: &LoopContext<R, P, B>,
         end: SessionEnd,
         time: LoopTime,
         output: &mut LoopOutput,

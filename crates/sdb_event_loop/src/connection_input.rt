@@ -11,7 +11,7 @@ use crate::loop_buffers::{LoopBuffers, LoopOutput, LoopTime, OUTPUT_BOUND};
 use crate::loop_context::LoopContext;
 use crate::loop_pass::PassBrand;
 use crate::session_end::{SessionEnd, end_of};
-use sdb_session::Progress as MessageProgress;
+use sdb_session::{Policy, Progress as MessageProgress};
 use std::sync::Wait;
 use websocket::protocol::{FrameStatus, Message, NoMask, Step};
 
@@ -30,7 +30,10 @@ impl<B: PassBrand> Connection<B> {
             return Ok(());
         }
         match self.link.read(&mut buffers.input) {
-            Ok(ReadOutcome::Bytes(count)) => self.append_input(count, buffers),
+            Ok(ReadOutcome::Bytes(count)) => {
+                buffers.output.tally.add_received(count);
+                self.append_input(count, buffers)
+            }
             Ok(ReadOutcome::Blocked) => Ok(()),
             Ok(ReadOutcome::Closed) => Err(end_of(&self.websocket.end_of_input())),
             Err(_) => Err(SessionEnd::Lost),
@@ -47,7 +50,6 @@ impl<B: PassBrand> Connection<B> {
             self.partial = std::mem::replace(&mut buffers.spare, empty);
         }
         let bytes = buffers.input.get(..count).unwrap_or(&[]);
-        buffers.output.tally.add_received(bytes.len());
         self.partial.extend_from_slice(bytes)?;
         Ok(())
     }
@@ -115,9 +117,9 @@ impl<B: PassBrand> Connection<B> {
 impl<B: PassBrand> Connection<B> {
     /// Reads once, and answers what came, up to the limits of a turn. A client that doesn't take its
     /// output isn't read from.
-    pub(crate) fn serve<R: Wait + Drop>(
+    pub(crate) fn serve<R: Wait + Drop, P: Policy + Drop>(
         &mut self,
-        context: &LoopContext<R, B>,
+        context: &LoopContext<R, P, B>,
         time: LoopTime,
         buffers: &mut LoopBuffers,
     ) -> Result<Progress, SessionEnd>
@@ -143,9 +145,9 @@ impl<B: PassBrand> Connection<B> {
 
     // Answers the complete frames of the input, up to the limits of a turn or to a listing. Returns
     // the number of bytes that they have.
-    fn answer_frames<R: Wait + Drop>(
+    fn answer_frames<R: Wait + Drop, P: Policy + Drop>(
         &mut self,
-        context: &LoopContext<R, B>,
+        context: &LoopContext<R, P, B>,
         time: LoopTime,
         output: &mut LoopOutput,
     ) -> Result<usize, SessionEnd>
@@ -157,10 +159,10 @@ impl<B: PassBrand> Connection<B> {
         Ok(used)
     }
 
-    fn answer_in_turn<R: Wait + Drop>(
+    fn answer_in_turn<R: Wait + Drop, P: Policy + Drop>(
         &mut self,
         bytes: &mut [u8],
-        context: &LoopContext<R, B>,
+        context: &LoopContext<R, P, B>,
         time: LoopTime,
         output: &mut LoopOutput,
     ) -> Result<usize, SessionEnd>
@@ -184,10 +186,10 @@ impl<B: PassBrand> Connection<B> {
     }
 
     // Answers the frame at the front. Returns its length, or 0 if it isn't complete.
-    fn answer_frame<R: Wait + Drop>(
+    fn answer_frame<R: Wait + Drop, P: Policy + Drop>(
         &mut self,
         bytes: &mut [u8],
-        context: &LoopContext<R, B>,
+        context: &LoopContext<R, P, B>,
         time: LoopTime,
         output: &mut LoopOutput,
     ) -> Result<usize, SessionEnd>
@@ -210,10 +212,10 @@ impl<B: PassBrand> Connection<B> {
         Ok(consumed)
     }
 
-    fn answer_message<R: Wait + Drop>(
+    fn answer_message<R: Wait + Drop, P: Policy + Drop>(
         &mut self,
         message: Message<'_>,
-        context: &LoopContext<R, B>,
+        context: &LoopContext<R, P, B>,
         time: LoopTime,
         output: &mut LoopOutput,
     ) -> Result<(), SessionEnd>
@@ -229,10 +231,10 @@ impl<B: PassBrand> Connection<B> {
     }
 
     // Handles a text message at the time of the pass. A listing is left after its first entries.
-    fn answer_text<R: Wait + Drop>(
+    fn answer_text<R: Wait + Drop, P: Policy + Drop>(
         &mut self,
         text: &str,
-        context: &LoopContext<R, B>,
+        context: &LoopContext<R, P, B>,
         time: LoopTime,
         output: &mut LoopOutput,
     ) -> Result<(), SessionEnd>

@@ -9,7 +9,7 @@ use crate::loop_buffers::{LoopOutput, LoopTime, OUTPUT_BOUND};
 use crate::loop_context::LoopContext;
 use crate::loop_pass::PassBrand;
 use crate::session_end::SessionEnd;
-use sdb_session::Listing;
+use sdb_session::{Listing, Policy};
 use std::sync::Wait;
 
 // Maximum number of entries read from one queue at a time, and number of such reads in one turn. The
@@ -23,9 +23,9 @@ const PARTS_PER_TURN: usize = 8;
 
 impl<B: PassBrand> Connection<B> {
     /// Sends the next parts of the listing, up to the limits of a turn.
-    pub(crate) fn serve_listing<R: Wait + Drop>(
+    pub(crate) fn serve_listing<R: Wait + Drop, P: Policy + Drop>(
         &mut self,
-        context: &LoopContext<R, B>,
+        context: &LoopContext<R, P, B>,
         time: LoopTime,
         output: &mut LoopOutput,
     ) -> Result<Progress, SessionEnd>
@@ -36,9 +36,9 @@ impl<B: PassBrand> Connection<B> {
         Ok(Progress::More)
     }
 
-    fn continue_listing<R: Wait + Drop>(
+    fn continue_listing<R: Wait + Drop, P: Policy + Drop>(
         &mut self,
-        context: &LoopContext<R, B>,
+        context: &LoopContext<R, P, B>,
         output: &mut LoopOutput,
     ) -> Result<(), SessionEnd>
         ensures { let b = context.now.state.value.backend in KeepsPass b self.old.pass.pass b self.new.pass.pass }
@@ -56,10 +56,10 @@ impl<B: PassBrand> Connection<B> {
     }
 
     // Writes the next part of the listing, and keeps what is left.
-    fn write_part<R: Wait + Drop>(
+    fn write_part<R: Wait + Drop, P: Policy + Drop>(
         &mut self,
         listing: Listing,
-        context: &LoopContext<R, B>,
+        context: &LoopContext<R, P, B>,
         output: &mut LoopOutput,
     ) -> Result<(), SessionEnd>
         ensures { let b = context.now.state.value.backend in KeepsPass b self.old.pass.pass b self.new.pass.pass }
@@ -76,9 +76,9 @@ impl<B: PassBrand> Connection<B> {
 
     /// Sends entries of the session's queues, up to the limits of a turn. A client that doesn't take
     /// its output gets no more.
-    pub(crate) fn pump<R: Wait + Drop>(
+    pub(crate) fn pump<R: Wait + Drop, P: Policy + Drop>(
         &mut self,
-        context: &LoopContext<R, B>,
+        context: &LoopContext<R, P, B>,
         time: LoopTime,
         output: &mut LoopOutput,
     ) -> Result<Progress, SessionEnd>
@@ -96,9 +96,9 @@ impl<B: PassBrand> Connection<B> {
         Ok(progress)
     }
 
-    fn take_entries<R: Wait + Drop>(
+    fn take_entries<R: Wait + Drop, P: Policy + Drop>(
         &mut self,
-        context: &LoopContext<R, B>,
+        context: &LoopContext<R, P, B>,
         output: &mut LoopOutput,
     ) -> Result<Progress, SessionEnd>
         ensures { let b = context.now.state.value.backend in KeepsPass b self.old.pass.pass b self.new.pass.pass }
@@ -116,9 +116,9 @@ impl<B: PassBrand> Connection<B> {
     }
 
     // Reads each queue once and returns the number of entries read.
-    fn take_once<R: Wait + Drop>(
+    fn take_once<R: Wait + Drop, P: Policy + Drop>(
         &mut self,
-        context: &LoopContext<R, B>,
+        context: &LoopContext<R, P, B>,
         output: &mut LoopOutput,
     ) -> Result<u128, SessionEnd>
         ensures { let b = context.now.state.value.backend in KeepsPass b self.old.pass.pass b self.new.pass.pass }

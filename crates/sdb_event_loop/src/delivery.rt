@@ -6,12 +6,17 @@ use crate::event_loop::EventLoop;
 use crate::loop_pass::PassBrand;
 use crate::loop_port::LoopPort;
 use crate::session_end::SessionEnd;
+use sdb_session::Policy;
 use std::alloc::AllocError;
 use std::net::Net;
 use std::sync::Wait;
 use std::time::Clock;
 
-impl<R: Net + Wait + Clock + Eprint + Copy + Drop, B: PassBrand> EventLoop<R, B> {
+impl<R: Net + Wait + Clock + Eprint + Copy + Drop, P: Policy + Drop, B: PassBrand> EventLoop<
+    R,
+    P,
+    B,
+> {
     /// Registers what the connection has subscribed to in its turn. Its queues are read next.
     pub(crate) fn note_subscriptions(&mut self, key: usize, subscribed: Vec<DocumentGroup>) {
         if subscribed.is_empty() {

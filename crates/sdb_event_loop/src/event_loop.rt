@@ -15,6 +15,7 @@ use mio::event::Event;
 use mio::net::TcpListener as MioListener;
 use mio::{Events, Poll, Token};
 use sdb_server::{Clock as MomentClock, SystemClock};
+use sdb_session::Policy;
 use slab::Slab;
 use std::alloc::Global;
 use std::collections::VecDeque;
@@ -39,9 +40,9 @@ const PAUSE_MS: u64 = 10;
 /// A loop: its connections, which of them are served next, and its buffers. One thread at a time
 /// runs it.
 #[derive(Drop)]
-pub(crate) struct EventLoop<R, B: PassBrand> {
+pub(crate) struct EventLoop<R, P, B: PassBrand> {
     pub(crate) alloc: Global,
-    pub(crate) context: LoopContext<R, B>,
+    pub(crate) context: LoopContext<R, P, B>,
     pub(crate) number: usize,
     pub(crate) listener: Arc<MioListener, Global>,
     pub(crate) slots: Slab<ConnectionSlot<B>>,
@@ -68,16 +69,16 @@ pub(crate) struct EventLoop<R, B: PassBrand> {
     pub(crate) passes: Vec<LoopPass<B>>,
 }
 
-impl<R: Clock, B: PassBrand> EventLoop<R, B> {
+impl<R: Clock, P: Policy + Drop, B: PassBrand> EventLoop<R, P, B> {
     /// Creates a loop without connections.
     pub(crate) fn new(
         alloc: Global,
-        context: LoopContext<R, B>,
+        context: LoopContext<R, P, B>,
         number: usize,
         listener: Arc<MioListener, Global>,
         buffers: LoopBuffers,
         subscribers: Vec<Vec<usize>>,
-    ) -> EventLoop<R, B> {
+    ) -> EventLoop<R, P, B> {
         let start = Instant::now(&context.rt).ok();
         EventLoop {
             alloc,
@@ -107,7 +108,7 @@ impl<R: Clock, B: PassBrand> EventLoop<R, B> {
     }
 }
 
-impl<R, B: PassBrand> EventLoop<R, B> {
+impl<R, P, B: PassBrand> EventLoop<R, P, B> {
     /// Returns the loop's wake-up flags.
     pub(crate) fn port(&self) -> Option<&LoopPort> {
         self.context.state.port(self.number)
@@ -125,14 +126,18 @@ impl<R, B: PassBrand> EventLoop<R, B> {
     }
 }
 
-impl<R: Net + Wait + Clock + Eprint + Copy + Drop, B: PassBrand> EventLoop<R, B> {
+impl<R: Net + Wait + Clock + Eprint + Copy + Drop, P: Policy + Drop, B: PassBrand> EventLoop<
+    R,
+    P,
+    B,
+> {
     /// Waits for events and records them, puts clients back whose turns ended elsewhere, accepts
     /// connections and starts sessions.
     pub(crate) fn begin_pass(
         &mut self,
         poll: &mut Poll,
         events: &mut Events<Global>,
-        slot: &LoopSlot<R, B>,
+        slot: &LoopSlot<R, P, B>,
     ) {
         let timeout = self.next_timeout(poll.registry(), slot);
         let polled = poll.poll(events, Some(timeout));
@@ -153,16 +158,14 @@ impl<R: Net + Wait + Clock + Eprint + Copy + Drop, B: PassBrand> EventLoop<R, B>
     pub(crate) fn end_pass(&mut self) {
         self.deliver();
         self.sweep();
-        self.context
-            .state
-            .metrics
-            .add(&mut self.buffers.output.tally);
+        let context = &self.context;
+        context.state.metrics.add(&mut self.buffers.output.tally);
         self.buffers.output.free_large(self.alloc);
     }
 
     // Returns how long the loop waits for the next event: not at all if work is left. From here on
     // it is woken for stored operations, for passes, for ended turns, and to accept a connection.
-    fn next_timeout(&mut self, registry: &mio::Registry, slot: &LoopSlot<R, B>) -> Duration {
+    fn next_timeout(&mut self, registry: &mio::Registry, slot: &LoopSlot<R, P, B>) -> Duration {
         let is_quiet = self.port().is_some_and(LoopPort::begin_wait);
         let has_accepted = self.accept_next(registry);
         if is_quiet && !has_accepted && !slot.has_ended_turns() && !self.has_work() {

@@ -11,6 +11,7 @@ use crate::loop_server::LoopServer;
 use crate::loop_threads::{LoopThreads, start_loops};
 use crate::pass_supply::supply_passes;
 use sdb_backend::{Host, Pass};
+use sdb_session::Policy;
 use std::alloc::Global;
 use std::collections::VecDeque;
 use std::io;
@@ -47,36 +48,38 @@ use std::time::Clock;
 /// let passes = listen_on_loops(rt, alloc, listener, &state, &mut host)?;
 /// stopping.join(&rt);
 /// ```
-pub fn listen_on_loops<R>(
+pub fn listen_on_loops<R, P>(
     rt: R,
     alloc: Global,
     listener: TcpListener,
-    state: &Arc<LoopServer<R>, Global>,
+    state: &Arc<LoopServer<R, P>, Global>,
     host: &mut Host,
 ) -> io::Result<Vec<Pass>>
 where
     R: Net<Listener = TcpListener, Stream = TcpStream>,
     R: Threads + Wait + Clock + Eprint + Drop + Copy + Send + Sync + 'static,
+    P: Policy + Drop + Send + Sync + 'static,
     requires { IsHostOfLoops host.old state.now.value }
     ensures host { IsHostOfLoops host.new state.now.value }
     ensures passes { IfOk result (λ passes.
         ForEach (λ p. IsPassOfBackend p (loops_backend state.now.value)) passes.items) }
     ensures host_unchanged_on_err { OnErr result (host.new ≡ host.old) }
 {
-    listen_as::<R, Brand>(rt, alloc, listener, state, host)
+    listen_as::<R, P, Brand>(rt, alloc, listener, state, host)
 }
 
 // Serves clients, where the brand names the server's backend.
-fn listen_as<R, B>(
+fn listen_as<R, P, B>(
     rt: R,
     alloc: Global,
     listener: TcpListener,
-    state: &Arc<LoopServer<R>, Global>,
+    state: &Arc<LoopServer<R, P>, Global>,
     host: &mut Host,
 ) -> io::Result<Vec<Pass>>
 where
     R: Net<Listener = TcpListener, Stream = TcpStream>,
     R: Threads + Wait + Clock + Eprint + Drop + Copy + Send + Sync + 'static,
+    P: Policy + Drop + Send + Sync + 'static,
     B: PassBrand + Send + Sync + 'static,
     requires brand { NamesBackend B.locks state.now.value.backend }
     requires host { IsHostOfLoops host.old state.now.value }
@@ -85,7 +88,7 @@ where
     ensures host_unchanged_on_err { OnErr result (host.new ≡ host.old) }
 {
     state.prepare();
-    let context: LoopContext<R, B> = LoopContext::new(rt, alloc, state)?;
+    let context: LoopContext<R, P, B> = LoopContext::new(rt, alloc, state)?;
     let threads = start_loops(alloc, listener, &context)?;
     context.state.open(&rt);
     supply_passes(&context, host);
@@ -93,10 +96,10 @@ where
 }
 
 // Joins the loops, and returns the passes of their sessions and those that weren't used.
-fn join_loops<R: Threads + Wait + Drop, B: PassBrand>(
+fn join_loops<R: Threads + Wait + Drop, P: Policy + Drop, B: PassBrand>(
     alloc: Global,
-    context: &LoopContext<R, B>,
-    threads: LoopThreads<R, B>,
+    context: &LoopContext<R, P, B>,
+    threads: LoopThreads<R, P, B>,
 ) -> Vec<Pass>
     ensures { ForEach (λ p. IsPassOfBackend p context.now.state.value.backend) result.items }
 {
@@ -113,8 +116,8 @@ fn join_loops<R: Threads + Wait + Drop, B: PassBrand>(
 }
 
 // Adds the passes of a loop's sessions to the list.
-fn add_passes<R, B: PassBrand>(
-    context: &LoopContext<R, B>,
+fn add_passes<R, P, B: PassBrand>(
+    context: &LoopContext<R, P, B>,
     passes: &mut Vec<Pass>,
     added: Vec<LoopPass<B>>,
 )
@@ -127,8 +130,8 @@ fn add_passes<R, B: PassBrand>(
 }
 
 // Adds passes that weren't used to the list.
-fn add_unused<R, B: PassBrand>(
-    context: &LoopContext<R, B>,
+fn add_unused<R, P, B: PassBrand>(
+    context: &LoopContext<R, P, B>,
     passes: &mut Vec<Pass>,
     unused: VecDeque<LoopPass<B>>,
 )
@@ -142,8 +145,8 @@ fn add_unused<R, B: PassBrand>(
 
 // Adds a pass to the list. If an allocation fails, it is missing, and the backend refuses to be
 // closed.
-fn push_pass<R, B: PassBrand>(
-    context: &LoopContext<R, B>,
+fn push_pass<R, P, B: PassBrand>(
+    context: &LoopContext<R, P, B>,
     passes: &mut Vec<Pass>,
     pass: LoopPass<B>,
 )

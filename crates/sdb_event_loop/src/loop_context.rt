@@ -6,25 +6,26 @@ use crate::document_group::DocumentGroup;
 use crate::loop_pass::{LoopPass, PassBrand};
 use crate::loop_server::LoopServer;
 use crate::pass_supply::PassSupply;
+use sdb_session::Policy;
 use std::alloc::{AllocError, Global};
 use std::sync::{Arc, Wait};
 
 /// The runtime, the state of the server and the supply of passes.
 #[derive(Drop)]
-pub(crate) struct LoopContext<R, B: PassBrand> {
+pub(crate) struct LoopContext<R, P, B: PassBrand> {
     pub(crate) rt: R,
-    pub(crate) state: Arc<LoopServer<R>, Global>,
+    pub(crate) state: Arc<LoopServer<R, P>, Global>,
     pub(crate) supply: Arc<PassSupply<B>, Global>,
     ghost names_backend: { NamesBackend B.locks state.value.backend },
 }
 
-impl<R: Copy, B: PassBrand> LoopContext<R, B> {
+impl<R: Copy, P: Policy + Drop, B: PassBrand> LoopContext<R, P, B> {
     /// Creates the context of a run. Fails only if an allocation fails.
     pub(crate) fn new(
         rt: R,
         alloc: Global,
-        state: &Arc<LoopServer<R>, Global>,
-    ) -> Result<LoopContext<R, B>, AllocError>
+        state: &Arc<LoopServer<R, P>, Global>,
+    ) -> Result<LoopContext<R, P, B>, AllocError>
         requires { NamesBackend B.locks state.now.value.backend }
         ensures { IfOk result (λ c. c.state.value ≡ state.now.value) }
     {
@@ -66,7 +67,7 @@ impl<R: Copy, B: PassBrand> LoopContext<R, B> {
     }
 
     /// Returns another context of the run. Fails only if there are too many.
-    pub(crate) fn try_clone(&self) -> Result<LoopContext<R, B>, AllocError>
+    pub(crate) fn try_clone(&self) -> Result<LoopContext<R, P, B>, AllocError>
         ensures { IfOk result (λ c. c.state.value ≡ self.now.state.value) }
     {
         let state = Arc::try_clone(&self.state)?;
@@ -79,7 +80,7 @@ impl<R: Copy, B: PassBrand> LoopContext<R, B> {
     }
 }
 
-impl<R: Wait, B: PassBrand> LoopContext<R, B> {
+impl<R: Wait, P: Policy + Drop, B: PassBrand> LoopContext<R, P, B> {
     /// Wakes each loop that has a subscriber of the group of a stored operation, if there is one.
     pub(crate) fn notify(&self, stored: Option<DocumentGroup>) {
         if let Some(group) = stored {

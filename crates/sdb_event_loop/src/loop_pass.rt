@@ -8,7 +8,7 @@ ghost use Rattle.sdb_event_loop.specs.PassLocks.{IsPassOfLocks};
 use crate::loop_context::LoopContext;
 use sdb_backend::{Host, Pass};
 use sdb_oplog::Moment;
-use sdb_session::{AnswerSink, Ended, Listing, Progress, Session};
+use sdb_session::{AnswerSink, Ended, Listing, Policy, Progress, Session};
 use std::marker::{Brand, PhantomData};
 use std::sync::Wait;
 
@@ -36,7 +36,10 @@ pub(crate) struct LoopPass<B: PassBrand> {
 
 impl<B: PassBrand> LoopPass<B> {
     /// Creates a pass, if the host has one.
-    pub(crate) fn new<R: Drop>(context: &LoopContext<R, B>, host: &mut Host) -> Option<LoopPass<B>>
+    pub(crate) fn new<R: Drop, P: Drop>(
+        context: &LoopContext<R, P, B>,
+        host: &mut Host,
+    ) -> Option<LoopPass<B>>
         requires { IsHostOfLoops host.old context.now.state.value }
         ensures host { IsHostOfLoops host.new context.now.state.value }
     {
@@ -57,9 +60,9 @@ impl<B: PassBrand> LoopPass<B> {
     }
 
     /// Begins to handle a text message of the session at this moment.
-    pub(crate) fn begin<R: Wait + Drop, O: AnswerSink>(
+    pub(crate) fn begin<R: Wait + Drop, P: Policy + Drop, O: AnswerSink>(
         &mut self,
-        context: &LoopContext<R, B>,
+        context: &LoopContext<R, P, B>,
         session: &mut Session,
         text: &str,
         now: Moment,
@@ -68,13 +71,20 @@ impl<B: PassBrand> LoopPass<B> {
         ensures { let b = context.now.state.value.backend in KeepsPass b self.old.pass b self.new.pass }
     {
         let state = &context.state;
-        session.begin_to(&state.backend, &mut self.pass, &state.table, text, now, out)
+        session.begin_to(
+            &state.backend,
+            &mut self.pass,
+            &state.policy,
+            text,
+            now,
+            out,
+        )
     }
 
     /// Writes the next part of a listing of the session, and returns what is left.
-    pub(crate) fn continue_listing<R: Wait + Drop, O: AnswerSink>(
+    pub(crate) fn continue_listing<R: Wait + Drop, P: Policy + Drop, O: AnswerSink>(
         &mut self,
-        context: &LoopContext<R, B>,
+        context: &LoopContext<R, P, B>,
         session: &mut Session,
         listing: Listing,
         out: &mut O,
@@ -82,13 +92,19 @@ impl<B: PassBrand> LoopPass<B> {
         ensures { let b = context.now.state.value.backend in KeepsPass b self.old.pass b self.new.pass }
     {
         let state = &context.state;
-        session.continue_to(&state.backend, &mut self.pass, &state.table, listing, out)
+        session.continue_to(
+            &state.backend,
+            &mut self.pass,
+            state.policy.table(),
+            listing,
+            out,
+        )
     }
 
     /// Reads at most `max` entries from each queue of the session, and writes them.
-    pub(crate) fn pump<R: Wait + Drop, O: AnswerSink>(
+    pub(crate) fn pump<R: Wait + Drop, P: Policy + Drop, O: AnswerSink>(
         &mut self,
-        context: &LoopContext<R, B>,
+        context: &LoopContext<R, P, B>,
         session: &mut Session,
         max: u64,
         out: &mut O,
@@ -96,27 +112,41 @@ impl<B: PassBrand> LoopPass<B> {
         ensures { let b = context.now.state.value.backend in KeepsPass b self.old.pass b self.new.pass }
     {
         let state = &context.state;
-        session.pump_to(&state.backend, &mut self.pass, &state.table, max, out)
+        session.pump_to(
+            &state.backend,
+            &mut self.pass,
+            state.policy.table(),
+            max,
+            out,
+        )
     }
 
     // Closes the queue of a listing, if it has one.
-    fn abandon<R: Wait + Drop>(&mut self, context: &LoopContext<R, B>, listing: Listing)
+    fn abandon<R: Wait + Drop, P: Policy + Drop>(
+        &mut self,
+        context: &LoopContext<R, P, B>,
+        listing: Listing,
+    )
         ensures { let b = context.now.state.value.backend in KeepsPass b self.old.pass b self.new.pass }
     {
         listing.abandon(&context.state.backend, &mut self.pass);
     }
 
     // Closes the queues of the session.
-    fn close_queues<R: Wait + Drop>(&mut self, context: &LoopContext<R, B>, session: Session)
+    fn close_queues<R: Wait + Drop, P: Policy + Drop>(
+        &mut self,
+        context: &LoopContext<R, P, B>,
+        session: Session,
+    )
         ensures { let b = context.now.state.value.backend in KeepsPass b self.old.pass b self.new.pass }
     {
         session.end(&context.state.backend, &mut self.pass);
     }
 
     /// Ends the session, and the listing that it hasn't sent.
-    pub(crate) fn end_session<R: Wait + Drop>(
+    pub(crate) fn end_session<R: Wait + Drop, P: Policy + Drop>(
         &mut self,
-        context: &LoopContext<R, B>,
+        context: &LoopContext<R, P, B>,
         session: Session,
         listing: Option<Listing>,
     )
@@ -129,7 +159,7 @@ impl<B: PassBrand> LoopPass<B> {
     }
 
     /// Returns the pass.
-    pub(crate) fn into_pass<R>(self, context: &LoopContext<R, B>) -> Pass
+    pub(crate) fn into_pass<R, P>(self, context: &LoopContext<R, P, B>) -> Pass
         ensures pass { IsPassOfBackend result context.now.state.value.backend }
         ensures number { pass_number result ≡ pass_number self.pass }
     {

@@ -9,7 +9,6 @@ use crate::loop_port::LoopPort;
 use crate::metrics::Metrics;
 use crate::plain_request::ServerStatus;
 use sdb_backend::Backend;
-use sdb_projection::Table;
 use std::alloc::{AllocError, Global};
 use std::sync::Wait;
 use std::sync::atomic::{AtomicBool, AtomicU64, AtomicUsize, Ordering};
@@ -36,12 +35,12 @@ pub struct LoopOptions {
     pub clients: usize,
 }
 
-/// The state that all loops of a server share: the documents, the projections, the counts of
+/// The state that all loops of a server share: the documents, the policy, the counts of
 /// connections and clients, and the flags of the server's life cycle.
 #[derive(Drop)]
-pub struct LoopServer<R> {
+pub struct LoopServer<R, P> {
     pub(crate) backend: Backend<R>,
-    pub(crate) table: Table,
+    pub(crate) policy: P,
     options: LoopOptions,
     is_logging: bool,
     is_proxied: bool,
@@ -68,9 +67,10 @@ pub struct LoopServer<R> {
     supplier: Parker,
 }
 
-impl<R: Drop> LoopServer<R> {
-    /// Creates a server without clients, for the backend's documents as seen through the
-    /// projections of the table. Each number of the options is set to the nearest permitted one.
+impl<R: Drop, P: Drop> LoopServer<R, P> {
+    /// Creates a server without clients, for the backend's documents, under a policy: a
+    /// [`Table`](sdb_projection::Table) has projections only. Each number of the options is set to
+    /// the nearest permitted one.
     ///
     /// # Errors
     ///
@@ -85,9 +85,9 @@ impl<R: Drop> LoopServer<R> {
     pub fn new(
         alloc: Global,
         backend: Backend<R>,
-        table: Table,
+        policy: P,
         options: LoopOptions,
-    ) -> Result<LoopServer<R>, AllocError>
+    ) -> Result<LoopServer<R, P>, AllocError>
         ensures { IfOk result (λ s. (h : HostState) → IsHostOfBackend h backend → IsHostOfLoops h s) }
     {
         let options = LoopOptions {
@@ -97,7 +97,7 @@ impl<R: Drop> LoopServer<R> {
         let ports = ports_of(alloc, options.loops)?;
         Ok(LoopServer {
             backend,
-            table,
+            policy,
             options,
             is_logging: false,
             is_proxied: false,
@@ -120,7 +120,7 @@ impl<R: Drop> LoopServer<R> {
 
     /// Sets whether the start and the end of each session are logged on standard error. The default
     /// is `false`.
-    pub fn with_log(mut self, is_logging: bool) -> LoopServer<R>
+    pub fn with_log(mut self, is_logging: bool) -> LoopServer<R, P>
         ensures { loops_backend result ≡ loops_backend self }
     {
         self.is_logging = is_logging;
@@ -130,7 +130,7 @@ impl<R: Drop> LoopServer<R> {
     /// Sets whether clients connect through a proxy, which writes their addresses into
     /// `X-Forwarded-For`. The log then has the last one of the last such header field, since a client
     /// can send others. The default is `false`.
-    pub fn with_proxy(mut self, is_proxied: bool) -> LoopServer<R>
+    pub fn with_proxy(mut self, is_proxied: bool) -> LoopServer<R, P>
         ensures { loops_backend result ≡ loops_backend self }
     {
         self.is_proxied = is_proxied;
@@ -139,7 +139,7 @@ impl<R: Drop> LoopServer<R> {
 
     /// Sets whether the passes of ended sessions are kept and returned. The default is `true`. A
     /// server that is never stopped needs none of them, but the backend can't be closed without.
-    pub fn with_passes_kept(mut self, is_keeping: bool) -> LoopServer<R>
+    pub fn with_passes_kept(mut self, is_keeping: bool) -> LoopServer<R, P>
         ensures { loops_backend result ≡ loops_backend self }
     {
         self.is_keeping = is_keeping;
@@ -148,7 +148,7 @@ impl<R: Drop> LoopServer<R> {
 
     /// Sets the number of sessions, 1 or more, after whose end the server is stopped. It isn't if the
     /// number is `None`, the default. Clients beyond this number are closed with 1013.
-    pub fn with_session_limit(mut self, limit: Option<u64>) -> LoopServer<R>
+    pub fn with_session_limit(mut self, limit: Option<u64>) -> LoopServer<R, P>
         ensures { loops_backend result ≡ loops_backend self }
     {
         self.session_limit = limit;
@@ -165,7 +165,7 @@ impl<R: Drop> LoopServer<R> {
     }
 }
 
-impl<R> LoopServer<R> {
+impl<R, P> LoopServer<R, P> {
     /// Returns the number of loops.
     pub(crate) fn loop_count(&self) -> usize {
         self.ports.len()
@@ -282,7 +282,7 @@ impl<R> LoopServer<R> {
     }
 }
 
-impl<R> LoopServer<R> {
+impl<R, P> LoopServer<R, P> {
     /// Stops the server: [`listen_on_loops`](crate::listen_on_loops) accepts no more connections,
     /// closes each session with status 1001, and returns. A stop is final.
     pub fn stop<W: Wait>(&self, rt: &W) {

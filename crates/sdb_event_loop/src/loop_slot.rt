@@ -2,6 +2,7 @@
 use crate::loop_pass::PassBrand;
 use crate::polled_loop::PolledLoop;
 use crate::turn::EndedTurn;
+use sdb_session::Policy;
 use std::alloc::{AllocError, Global};
 use std::sync::atomic::{AtomicBool, AtomicU64, Ordering};
 use std::sync::{Mutex, Wait};
@@ -9,8 +10,8 @@ use std::sync::{Mutex, Wait};
 /// The slot of a loop. A thread that runs the loop moves it into the slot while it serves a client.
 /// If that takes long, another thread moves it out and continues it.
 #[derive(Drop)]
-pub(crate) struct LoopSlot<R, B: PassBrand> {
-    event_loop: Mutex<Option<Box<PolledLoop<R, B>>>>,
+pub(crate) struct LoopSlot<R, P, B: PassBrand> {
+    event_loop: Mutex<Option<Box<PolledLoop<R, P, B>>>>,
     // Number of moves into the slot and out of it. It is odd while the loop is in the slot.
     move_count: AtomicU64,
     // Whether the loop waits for a thread that continues it.
@@ -20,10 +21,10 @@ pub(crate) struct LoopSlot<R, B: PassBrand> {
     has_ended_turns: AtomicBool,
 }
 
-impl<R: Drop, B: PassBrand> LoopSlot<R, B> {
+impl<R: Drop, P: Policy + Drop, B: PassBrand> LoopSlot<R, P, B> {
     /// Creates a slot without a loop, for at most this number of turns at once. Fails only if an
     /// allocation fails.
-    pub(crate) fn new(alloc: Global, turns: usize) -> Result<LoopSlot<R, B>, AllocError> {
+    pub(crate) fn new(alloc: Global, turns: usize) -> Result<LoopSlot<R, P, B>, AllocError> {
         Ok(LoopSlot {
             event_loop: Mutex::new(None),
             move_count: AtomicU64::new(0),
@@ -34,14 +35,14 @@ impl<R: Drop, B: PassBrand> LoopSlot<R, B> {
     }
 
     /// Moves the loop into the slot.
-    pub(crate) fn put<W: Wait>(&self, rt: &W, event_loop: Box<PolledLoop<R, B>>) {
+    pub(crate) fn put<W: Wait>(&self, rt: &W, event_loop: Box<PolledLoop<R, P, B>>) {
         let mut place = self.event_loop.lock(rt);
         *place = Some(event_loop);
         self.move_count.fetch_add(1, Ordering::SeqCst);
     }
 
     /// Moves the loop out of the slot, if it is there.
-    pub(crate) fn take<W: Wait>(&self, rt: &W) -> Option<Box<PolledLoop<R, B>>> {
+    pub(crate) fn take<W: Wait>(&self, rt: &W) -> Option<Box<PolledLoop<R, P, B>>> {
         let mut place = self.event_loop.lock(rt);
         let event_loop = place.take();
         if event_loop.is_some() {

@@ -2,6 +2,7 @@
 use crate::loop_pass::{LoopPass, PassBrand};
 use crate::loop_slot::LoopSlot;
 use crate::polled_loop::PolledLoop;
+use sdb_session::Policy;
 use std::alloc::{AllocError, Global};
 use std::collections::VecDeque;
 use std::sync::atomic::{AtomicBool, AtomicUsize, Ordering};
@@ -15,8 +16,8 @@ const WATCHER_PAUSE_SECONDS: u64 = 1;
 /// The loops of a run. Each is run by one thread at a time, and any thread can continue one that is
 /// in its slot.
 #[derive(Drop)]
-pub(crate) struct LoopSlots<R, B: PassBrand> {
-    slots: Vec<LoopSlot<R, B>>,
+pub(crate) struct LoopSlots<R, P, B: PassBrand> {
+    slots: Vec<LoopSlot<R, P, B>>,
     // The numbers of the loops that wait for a thread.
     waiting: Mutex<VecDeque<usize>>,
     has_waiting: Condvar,
@@ -29,14 +30,14 @@ pub(crate) struct LoopSlots<R, B: PassBrand> {
     is_watching: AtomicBool,
 }
 
-impl<R: Drop, B: PassBrand> LoopSlots<R, B> {
+impl<R: Drop, P: Policy + Drop, B: PassBrand> LoopSlots<R, P, B> {
     /// Creates the slots of this number of loops, for at most this number of turns at once. Fails
     /// only if an allocation fails.
     pub(crate) fn new(
         alloc: Global,
         loops: usize,
         turns: usize,
-    ) -> Result<LoopSlots<R, B>, AllocError> {
+    ) -> Result<LoopSlots<R, P, B>, AllocError> {
         let mut slots = Vec::with_capacity(alloc, loops)?;
         for _ in 0..loops {
             slots.push(LoopSlot::new(alloc, turns)?)?;
@@ -55,7 +56,7 @@ impl<R: Drop, B: PassBrand> LoopSlots<R, B> {
     }
 
     /// Returns the slot of a loop.
-    pub(crate) fn slot(&self, number: usize) -> Option<&LoopSlot<R, B>> {
+    pub(crate) fn slot(&self, number: usize) -> Option<&LoopSlot<R, P, B>> {
         self.slots.get(number)
     }
 
@@ -68,8 +69,8 @@ impl<R: Drop, B: PassBrand> LoopSlots<R, B> {
     pub(crate) fn begin_turn<W: Wait>(
         &self,
         rt: &W,
-        slot: &LoopSlot<R, B>,
-        event_loop: Box<PolledLoop<R, B>>,
+        slot: &LoopSlot<R, P, B>,
+        event_loop: Box<PolledLoop<R, P, B>>,
     ) {
         slot.put(rt, event_loop);
         if !self.is_watching.load(Ordering::SeqCst) {

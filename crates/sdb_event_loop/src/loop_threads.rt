@@ -10,6 +10,7 @@ use crate::watcher::watch_loops;
 use mio::net::TcpListener as MioListener;
 use mio::unix::SourceFd;
 use mio::{Events, Interest, Poll, Waker};
+use sdb_session::Policy;
 use std::alloc::{AllocError, Global};
 use std::net::{Net, TcpListener, TcpStream};
 use std::os::fd::AsRawFd;
@@ -35,12 +36,12 @@ fn empty_groups(alloc: Global) -> Result<Vec<Vec<usize>>, AllocError> {
 
 /// The threads of a run, which share its loops.
 #[derive(Drop)]
-pub(crate) struct LoopThreads<R, B: PassBrand> {
-    pub(crate) slots: Arc<LoopSlots<R, B>, Global>,
+pub(crate) struct LoopThreads<R, P, B: PassBrand> {
+    pub(crate) slots: Arc<LoopSlots<R, P, B>, Global>,
     threads: Vec<JoinHandle<()>>,
 }
 
-impl<R: Threads + Wait + Drop, B: PassBrand> LoopThreads<R, B> {
+impl<R: Threads + Wait + Drop, P: Policy + Drop, B: PassBrand> LoopThreads<R, P, B> {
     /// Waits until all loops have ended, and returns the passes of their sessions.
     pub(crate) fn join(self, rt: &R, alloc: Global) -> Vec<Vec<LoopPass<B>>> {
         let LoopThreads { slots, threads } = self;
@@ -53,14 +54,15 @@ impl<R: Threads + Wait + Drop, B: PassBrand> LoopThreads<R, B> {
 
 /// Starts the loops of a run: a thread for each, spare threads that continue loops whose turns take
 /// long, and one that watches them. If one can't be started, those that run are ended.
-pub(crate) fn start_loops<R, B>(
+pub(crate) fn start_loops<R, P, B>(
     alloc: Global,
     listener: TcpListener,
-    context: &LoopContext<R, B>,
-) -> io::Result<LoopThreads<R, B>>
+    context: &LoopContext<R, P, B>,
+) -> io::Result<LoopThreads<R, P, B>>
 where
     R: Net<Listener = TcpListener, Stream = TcpStream>,
     R: Threads + Wait + Clock + Eprint + Drop + Copy + Send + Sync + 'static,
+    P: Policy + Drop + Send + Sync + 'static,
     B: PassBrand + Send + Sync + 'static,
 {
     listener.set_nonblocking(true)?;
@@ -84,15 +86,16 @@ where
 }
 
 // Creates a loop in its slot.
-fn create_loop<R, B>(
+fn create_loop<R, P, B>(
     alloc: Global,
     listener: &Arc<MioListener, Global>,
-    context: &LoopContext<R, B>,
-    slots: &LoopSlots<R, B>,
+    context: &LoopContext<R, P, B>,
+    slots: &LoopSlots<R, P, B>,
     number: usize,
 ) -> io::Result<()>
 where
     R: Net + Wait + Clock + Copy + Drop,
+    P: Policy + Drop,
     B: PassBrand,
 {
     let (poll, waker) = polled_listener(&context.rt, listener)?;
@@ -134,15 +137,16 @@ fn polled_listener<R: Net>(
 }
 
 // Starts the watcher and the threads. The list has capacity for their handles.
-fn start_threads<R, B>(
+fn start_threads<R, P, B>(
     alloc: Global,
-    context: &LoopContext<R, B>,
-    started: &mut LoopThreads<R, B>,
+    context: &LoopContext<R, P, B>,
+    started: &mut LoopThreads<R, P, B>,
     count: usize,
 ) -> io::Result<()>
 where
     R: Net<Listener = TcpListener, Stream = TcpStream>,
     R: Threads + Wait + Clock + Eprint + Drop + Copy + Send + Sync + 'static,
+    P: Policy + Drop + Send + Sync + 'static,
     B: PassBrand + Send + Sync + 'static,
 {
     let watcher = start_watcher(alloc, context, &started.slots)?;
@@ -154,13 +158,14 @@ where
     Ok(())
 }
 
-fn start_watcher<R, B>(
+fn start_watcher<R, P, B>(
     alloc: Global,
-    context: &LoopContext<R, B>,
-    slots: &Arc<LoopSlots<R, B>, Global>,
+    context: &LoopContext<R, P, B>,
+    slots: &Arc<LoopSlots<R, P, B>, Global>,
 ) -> io::Result<JoinHandle<()>>
 where
     R: Threads + Wait + Clock + Drop + Copy + Send + Sync + 'static,
+    P: Policy + Drop + Send + Sync + 'static,
     B: PassBrand + Send + Sync + 'static,
 {
     let rt = context.rt;
@@ -169,14 +174,15 @@ where
     handle_of(thread::spawn(&rt, move || watch_loops(&rt, &slots, seen)))
 }
 
-fn start_thread<R, B>(
+fn start_thread<R, P, B>(
     alloc: Global,
-    context: &LoopContext<R, B>,
-    slots: &Arc<LoopSlots<R, B>, Global>,
+    context: &LoopContext<R, P, B>,
+    slots: &Arc<LoopSlots<R, P, B>, Global>,
 ) -> io::Result<JoinHandle<()>>
 where
     R: Net<Listener = TcpListener, Stream = TcpStream>,
     R: Threads + Wait + Clock + Eprint + Drop + Copy + Send + Sync + 'static,
+    P: Policy + Drop + Send + Sync + 'static,
     B: PassBrand + Send + Sync + 'static,
 {
     let slots = Arc::try_clone(slots)?;

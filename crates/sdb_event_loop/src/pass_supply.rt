@@ -5,6 +5,7 @@ ghost use Rattle.sdb_event_loop.specs.LoopModel.{IsHostOfLoops};
 use crate::loop_context::LoopContext;
 use crate::loop_pass::{LoopPass, PassBrand};
 use sdb_backend::Host;
+use sdb_session::Policy;
 use std::alloc::{AllocError, Global};
 use std::collections::VecDeque;
 use std::sync::atomic::{AtomicBool, Ordering};
@@ -87,8 +88,8 @@ impl<B: PassBrand> PassSupply<B> {
 }
 
 /// Creates passes until the server is stopped, so that some are always unused.
-pub(crate) fn supply_passes<R: Wait + Drop, B: PassBrand>(
-    context: &LoopContext<R, B>,
+pub(crate) fn supply_passes<R: Wait + Drop, P: Policy + Drop, B: PassBrand>(
+    context: &LoopContext<R, P, B>,
     host: &mut Host,
 )
     requires { IsHostOfLoops host.old context.now.state.value }
@@ -109,7 +110,10 @@ pub(crate) fn supply_passes<R: Wait + Drop, B: PassBrand>(
 }
 
 // Creates passes until the supply is full.
-fn fill_supply<R: Wait + Drop, B: PassBrand>(context: &LoopContext<R, B>, host: &mut Host)
+fn fill_supply<R: Wait + Drop, P: Policy + Drop, B: PassBrand>(
+    context: &LoopContext<R, P, B>,
+    host: &mut Host,
+)
     requires { IsHostOfLoops host.old context.now.state.value }
     ensures { IsHostOfLoops host.new context.now.state.value }
 {

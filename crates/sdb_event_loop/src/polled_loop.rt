@@ -6,6 +6,7 @@ use crate::loop_pass::PassBrand;
 use crate::loop_slot::LoopSlot;
 use crate::loop_slots::LoopSlots;
 use mio::{Events, Poll};
+use sdb_session::Policy;
 use std::alloc::Global;
 use std::net::Net;
 use std::sync::{Arc, Wait};
@@ -13,29 +14,29 @@ use std::time::Clock;
 
 /// A loop and its event queue.
 #[derive(Drop)]
-pub(crate) struct PolledLoop<R, B: PassBrand> {
-    pub(crate) event_loop: EventLoop<R, B>,
+pub(crate) struct PolledLoop<R, P, B: PassBrand> {
+    pub(crate) event_loop: EventLoop<R, P, B>,
     pub(crate) poll: Poll,
     pub(crate) events: Events<Global>,
 }
 
 /// What a thread needs to run loops.
 #[derive(Drop)]
-pub(crate) struct LoopRunner<R, B: PassBrand> {
+pub(crate) struct LoopRunner<R, P, B: PassBrand> {
     alloc: Global,
-    context: LoopContext<R, B>,
-    slots: Arc<LoopSlots<R, B>, Global>,
+    context: LoopContext<R, P, B>,
+    slots: Arc<LoopSlots<R, P, B>, Global>,
     buffers: LoopBuffers,
 }
 
-impl<R, B: PassBrand> LoopRunner<R, B> {
+impl<R, P, B: PassBrand> LoopRunner<R, P, B> {
     /// Creates a runner.
     pub(crate) fn new(
         alloc: Global,
-        context: LoopContext<R, B>,
-        slots: Arc<LoopSlots<R, B>, Global>,
+        context: LoopContext<R, P, B>,
+        slots: Arc<LoopSlots<R, P, B>, Global>,
         buffers: LoopBuffers,
-    ) -> LoopRunner<R, B> {
+    ) -> LoopRunner<R, P, B> {
         LoopRunner {
             alloc,
             context,
@@ -46,9 +47,10 @@ impl<R, B: PassBrand> LoopRunner<R, B> {
 }
 
 /// Runs each loop that needs a thread, until all loops have ended.
-pub(crate) fn run_loops<R, B: PassBrand>(runner: LoopRunner<R, B>)
+pub(crate) fn run_loops<R, P, B: PassBrand>(runner: LoopRunner<R, P, B>)
 where
     R: Net + Wait + Clock + Eprint + Copy + Drop,
+    P: Policy + Drop,
 {
     let LoopRunner {
         alloc,
@@ -66,15 +68,16 @@ where
 }
 
 // Runs the loop until it ends, or until another thread runs it.
-fn run_loop<R, B: PassBrand>(
+fn run_loop<R, P, B: PassBrand>(
     alloc: Global,
-    context: &LoopContext<R, B>,
-    slots: &LoopSlots<R, B>,
+    context: &LoopContext<R, P, B>,
+    slots: &LoopSlots<R, P, B>,
     number: usize,
     buffers: &mut LoopBuffers,
 )
 where
     R: Net + Wait + Clock + Eprint + Copy + Drop,
+    P: Policy + Drop,
 {
     let Some(slot) = slots.slot(number) else {
         return;
@@ -91,16 +94,17 @@ where
 }
 
 // Runs one pass of the loop. Returns `None` if the loop has ended or another thread runs it.
-fn run_pass<R, B: PassBrand>(
+fn run_pass<R, P, B: PassBrand>(
     alloc: Global,
-    mut polled: Box<PolledLoop<R, B>>,
-    context: &LoopContext<R, B>,
-    slots: &LoopSlots<R, B>,
-    slot: &LoopSlot<R, B>,
+    mut polled: Box<PolledLoop<R, P, B>>,
+    context: &LoopContext<R, P, B>,
+    slots: &LoopSlots<R, P, B>,
+    slot: &LoopSlot<R, P, B>,
     buffers: &mut LoopBuffers,
-) -> Option<Box<PolledLoop<R, B>>>
+) -> Option<Box<PolledLoop<R, P, B>>>
 where
     R: Net + Wait + Clock + Eprint + Copy + Drop,
+    P: Policy + Drop,
 {
     begin_pass(&mut polled, slot);
     let mut polled = serve_ready(alloc, polled, context, slots, slot, buffers)?;
@@ -112,9 +116,10 @@ where
     Some(polled)
 }
 
-fn begin_pass<R, B: PassBrand>(polled: &mut PolledLoop<R, B>, slot: &LoopSlot<R, B>)
+fn begin_pass<R, P, B: PassBrand>(polled: &mut PolledLoop<R, P, B>, slot: &LoopSlot<R, P, B>)
 where
     R: Net + Wait + Clock + Eprint + Copy + Drop,
+    P: Policy + Drop,
 {
     let PolledLoop {
         event_loop,
@@ -125,25 +130,27 @@ where
 }
 
 // Ends the pass. Returns whether the loop has ended.
-fn end_pass<R, B: PassBrand>(polled: &mut PolledLoop<R, B>) -> bool
+fn end_pass<R, P, B: PassBrand>(polled: &mut PolledLoop<R, P, B>) -> bool
 where
     R: Net + Wait + Clock + Eprint + Copy + Drop,
+    P: Policy + Drop,
 {
     polled.event_loop.end_pass();
     polled.event_loop.is_over()
 }
 
 // Gives each client that is ready a turn. Returns `None` if another thread runs the loop.
-fn serve_ready<R, B: PassBrand>(
+fn serve_ready<R, P, B: PassBrand>(
     alloc: Global,
-    polled: Box<PolledLoop<R, B>>,
-    context: &LoopContext<R, B>,
-    slots: &LoopSlots<R, B>,
-    slot: &LoopSlot<R, B>,
+    polled: Box<PolledLoop<R, P, B>>,
+    context: &LoopContext<R, P, B>,
+    slots: &LoopSlots<R, P, B>,
+    slot: &LoopSlot<R, P, B>,
     buffers: &mut LoopBuffers,
-) -> Option<Box<PolledLoop<R, B>>>
+) -> Option<Box<PolledLoop<R, P, B>>>
 where
     R: Net + Wait + Clock + Eprint + Copy + Drop,
+    P: Policy + Drop,
 {
     let mut running = polled;
     for _ in 0..running.event_loop.ready_count() {
@@ -154,16 +161,17 @@ where
 
 // Gives the next client a turn, while the loop is in its slot. Returns `None` if another thread
 // runs the loop then.
-fn serve_next<R, B: PassBrand>(
+fn serve_next<R, P, B: PassBrand>(
     alloc: Global,
-    mut polled: Box<PolledLoop<R, B>>,
-    context: &LoopContext<R, B>,
-    slots: &LoopSlots<R, B>,
-    slot: &LoopSlot<R, B>,
+    mut polled: Box<PolledLoop<R, P, B>>,
+    context: &LoopContext<R, P, B>,
+    slots: &LoopSlots<R, P, B>,
+    slot: &LoopSlot<R, P, B>,
     buffers: &mut LoopBuffers,
-) -> Option<Box<PolledLoop<R, B>>>
+) -> Option<Box<PolledLoop<R, P, B>>>
 where
     R: Net + Wait + Clock + Eprint + Copy + Drop,
+    P: Policy + Drop,
 {
     let Some(turn) = polled.event_loop.next_turn() else {
         return Some(polled);

@@ -6,11 +6,16 @@ use crate::loop_pass::PassBrand;
 use crate::loop_slot::LoopSlot;
 use crate::session_end::SessionEnd;
 use crate::turn::{EndedTurn, Turn, TurnEvents};
+use sdb_session::Policy;
 use std::net::Net;
 use std::sync::Wait;
 use std::time::Clock;
 
-impl<R: Net + Wait + Clock + Eprint + Copy + Drop, B: PassBrand> EventLoop<R, B> {
+impl<R: Net + Wait + Clock + Eprint + Copy + Drop, P: Policy + Drop, B: PassBrand> EventLoop<
+    R,
+    P,
+    B,
+> {
     /// Begins the turn of the next client that is ready. Input of a connection that is being closed
     /// is discarded here, without a turn.
     pub(crate) fn next_turn(&mut self) -> Option<Turn<B>> {
@@ -35,7 +40,7 @@ impl<R: Net + Wait + Clock + Eprint + Copy + Drop, B: PassBrand> EventLoop<R, B>
     }
 
     /// Ends each turn that has ended while another thread ran the loop.
-    pub(crate) fn end_turns(&mut self, slot: &LoopSlot<R, B>) {
+    pub(crate) fn end_turns(&mut self, slot: &LoopSlot<R, P, B>) {
         if !slot.has_ended_turns() {
             return;
         }

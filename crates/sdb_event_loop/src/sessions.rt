@@ -8,6 +8,7 @@ use crate::log::{Peer, SessionReport, log_begin, log_end};
 use crate::loop_pass::{LoopPass, PassBrand};
 use crate::loop_port::LoopPort;
 use crate::session_end::SessionEnd;
+use sdb_session::Policy;
 use std::net::Net;
 use std::sync::Wait;
 use std::time::Clock;
@@ -24,7 +25,11 @@ fn failed_report(number: u64) -> SessionReport {
     }
 }
 
-impl<R: Net + Wait + Clock + Eprint + Copy + Drop, B: PassBrand> EventLoop<R, B> {
+impl<R: Net + Wait + Clock + Eprint + Copy + Drop, P: Policy + Drop, B: PassBrand> EventLoop<
+    R,
+    P,
+    B,
+> {
     // Moves a served client out of its slot.
     fn take_served(&mut self, key: usize) -> Option<Box<Connection<B>>> {
         self.slots.get_mut(key)?.take_served()

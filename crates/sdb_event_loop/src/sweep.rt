@@ -3,6 +3,7 @@ use crate::connection_slot::ConnectionSlot;
 use crate::event_loop::EventLoop;
 use crate::loop_pass::PassBrand;
 use crate::session_end::SessionEnd;
+use sdb_session::Policy;
 use std::net::Net;
 use std::sync::Wait;
 use std::time::Clock;
@@ -21,7 +22,11 @@ enum DueEnd {
     Refuse,
 }
 
-impl<R: Net + Wait + Clock + Eprint + Copy + Drop, B: PassBrand> EventLoop<R, B> {
+impl<R: Net + Wait + Clock + Eprint + Copy + Drop, P: Policy + Drop, B: PassBrand> EventLoop<
+    R,
+    P,
+    B,
+> {
     /// Checks the deadlines of all connections once a second, and ends all once the server is
     /// shutting down.
     pub(crate) fn sweep(&mut self) {

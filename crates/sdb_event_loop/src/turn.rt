@@ -6,6 +6,7 @@ use crate::loop_buffers::{LoopBuffers, LoopTime};
 use crate::loop_context::LoopContext;
 use crate::loop_pass::PassBrand;
 use crate::session_end::SessionEnd;
+use sdb_session::Policy;
 use std::alloc::Global;
 use std::sync::Wait;
 
@@ -60,10 +61,10 @@ impl TurnEvents {
 
 impl<B: PassBrand> Turn<B> {
     /// Reads once, and answers what came.
-    pub(crate) fn run<R: Wait + Drop>(
+    pub(crate) fn run<R: Wait + Drop, P: Policy + Drop>(
         self,
         alloc: Global,
-        context: &LoopContext<R, B>,
+        context: &LoopContext<R, P, B>,
         time: LoopTime,
         buffers: &mut LoopBuffers,
     ) -> EndedTurn<B> {

@@ -1,6 +1,7 @@
 //! Detecting turns that take long.
 use crate::loop_pass::PassBrand;
 use crate::loop_slots::LoopSlots;
+use sdb_session::Policy;
 use std::sync::Wait;
 use std::thread;
 use std::time::{Clock, Duration};
@@ -14,9 +15,9 @@ const QUIET_LIMIT: u32 = 200;
 
 /// Watches the slots until all loops have ended: lets another thread continue each loop whose turn
 /// takes long. `seen` has a zero for each loop.
-pub(crate) fn watch_loops<R: Wait + Clock + Drop, B: PassBrand>(
+pub(crate) fn watch_loops<R: Wait + Clock + Drop, P: Policy + Drop, B: PassBrand>(
     rt: &R,
-    slots: &LoopSlots<R, B>,
+    slots: &LoopSlots<R, P, B>,
     mut seen: Vec<u64>,
 ) {
     let mut quiet: u32 = 0;

@@ -1,11 +1,12 @@
-//! A client that creates a document and fetches it.
+//! A client that creates a document, edits it as a guest, and fetches it.
 use std::net::{Net, SocketAddr, TcpStream};
 use std::random::RandomSource;
 use tungstenite::handshake::client::request_of;
 use tungstenite::{Message, RandomKeys, WebSocket, client};
 
-const MESSAGES: [&str; 2] = [
+const MESSAGES: [&str; 3] = [
     r#"{"a":"op","c":"board","d":"1","seq":1,"create":{"type":"json0","data":{"votes":0}}}"#,
+    r#"{"a":"op","c":"board","d":"1","v":1,"src":"guest","seq":1,"op":[{"p":["votes"],"na":1}]}"#,
     r#"{"a":"f","c":"board","d":"1"}"#,
 ];
 

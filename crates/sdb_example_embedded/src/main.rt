@@ -1,8 +1,11 @@
-//! An example program that embeds the server. It serves one client, which runs in another thread.
+//! An example program that embeds the server, with a policy. It serves one client, which runs in
+//! another thread.
 #![tactic(auto)]
 
 mod example_client;
+mod guests_read;
 
+use crate::guests_read::GuestsRead;
 use sdb_backend::Backend;
 use sdb_event_loop::{LoopOptions, LoopServer, listen_on_loops};
 use sdb_projection::Table;
@@ -20,7 +23,10 @@ fn main(rt: HostRuntime) -> anyhow::Result<()> {
         loops: 1,
         clients: 64,
     };
-    let state = LoopServer::new(alloc, backend, Table::new(alloc), options)?;
+    let policy = GuestsRead {
+        table: Table::new(alloc),
+    };
+    let state = LoopServer::new(alloc, backend, policy, options)?;
     let state = Arc::new(alloc, state.with_session_limit(Some(1)))?;
     listen_on_loops(rt, alloc, listener, &state, &mut host)?;
     client.join(&rt);

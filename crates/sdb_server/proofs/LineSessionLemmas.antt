@@ -16,6 +16,7 @@ use Rattle.sdb_session.specs.Listing.{PlainListing, MessageBegins, TextBegins}
 use Rattle.sdb_session.specs.ListingView.{plain_listing}
 use Rattle.sdb_session.specs.Output.{answer_lines, answer_line}
 use Rattle.sdb_session.specs.ProjectionModel.{projection_of_key}
+use Rattle.sdb_session.specs.PolicyModel.{table_policy}
 use Rattle.sdb_session.specs.Responses.{entry_answers, TextOutcome}
 use Rattle.sdb_session.specs.Sessions.{PlainSession}
 use Rattle.sdb_session.specs.View.{plain_session, WroteAnswers}
@@ -176,7 +177,7 @@ module _ {C : Type 0} (ahead : C → Option (List ℕ)) (s : LineState) (text : 
 
   -- the session has written the whole answer to the line, and pumped its queues
   pub line_whole : (front old between new : List ℕ) (says : List PlainAnswer → Type 0) (more : (a : List PlainAnswer) → says a → WroteMore front old between a) (mid last : State) (t : LineSession C) (q : Shard) (session : PlainSession)
-      → TextOutcome (MachineActs machine_of) text s.table 0 now s.timed.state.session before says session q
+      → TextOutcome (MachineActs machine_of) text (table_policy s.table) 0 now s.timed.state.session before says session q
       → mid ≡ state_at machine_of q session → new ≡ between ++ answer_lines (pump_transition s.table mid).answers → last ≡ (pump_transition s.table mid).state
       → last ≡ state_of t → t.table.now ≡ s.table → ClockReturns s.timed.remaining_moments now (ahead t.clock)
       → AppendsWhere old new (λ bytes. AnswersLine HandlesLine (IsListing ahead) (line_state ahead) true s (Some text) (front ++ bytes) t)

@@ -89,7 +89,7 @@ impl<C: Clock + Drop> LineHandler for LineSession<'_, C> {
             session,
             listing,
         } = self;
-        match session.begin_to(&Solo, shard, table, line, clock.now(), out)? {
+        match session.begin_to(&Solo, shard, *table, line, clock.now(), out)? {
             Progress::Done { is_request } => {
                 session.pump_to(&Solo, shard, table, TAKE_LIMIT, out)?;
                 Ok(LineProgress::done(is_request))

@@ -189,7 +189,7 @@ fn loop_server<R: AllocGlobal + Threads + Drop>(
     options: ServeOptions,
     limit: Option<u64>,
     is_closing: bool,
-) -> Result<Arc<LoopServer<R>, Global>, AllocError>
+) -> Result<Arc<LoopServer<R, Table>, Global>, AllocError>
     ensures { IfOk result (λ s. (h : HostState) → IsHostOfBackend h backend → IsHostOfLoops h s.value) }
 {
     let alloc = rt.alloc();

@@ -48,7 +48,7 @@ fn server<R: Drop>(
     alloc: Global,
     backend: Backend<R>,
     sessions: u64,
-) -> Result<Arc<LoopServer<R>, Global>, AllocError>
+) -> Result<Arc<LoopServer<R, Table>, Global>, AllocError>
     ensures { IfOk result (λ s. (h : HostState) → IsHostOfBackend h backend → IsHostOfLoops h s.value) }
 {
     let options = LoopOptions {

@@ -34,7 +34,7 @@ const OPTIONS: LoopOptions = LoopOptions {
 fn loop_server<R: Drop>(
     alloc: Global,
     backend: Backend<R>,
-) -> Result<Arc<LoopServer<R>, Global>, AllocError>
+) -> Result<Arc<LoopServer<R, Table>, Global>, AllocError>
     ensures { IfOk result (λ s. (h : HostState) → IsHostOfBackend h backend → IsHostOfLoops h s.value) }
 {
     let state = LoopServer::new(alloc, backend, Table::new(alloc), OPTIONS)?.with_log(true);
@@ -89,7 +89,7 @@ fn use_and_stop<R: Drop, H: Abort + Wait>(
     rt: HostRuntime,
     alloc: Global,
     address: SocketAddr,
-    state: &LoopServer<R>,
+    state: &LoopServer<R, Table>,
 ) {
     let mut clients = edit_as_first_client(abort, alloc, open_all(abort, rt, alloc, address));
     assert!(abort; try_open_session(abort, rt, alloc, address, "").is_none());

@@ -11,6 +11,7 @@ use Rattle.sdb_wire.specs.Wire.{PlainEcho, PlainRequest, parse_message}
 use Rattle.sdb_wire.specs.Answers.{PlainAnswer, failed}
 use Rattle.sdb_session.specs.Listing.{PlainListing, entries_left, FailsToRead, ClosesNewQueue, ListingOpens, ListingFinishes, ListingInterrupted, ListingBegins, TextBegins, ListingPart, TextPart, PartOutcome, StopsOrDone, InterruptsOrDone}
 use Rattle.sdb_session.specs.ListingView.{plain_listing, listing_result, PartOrFault}
+use Rattle.sdb_session.specs.PolicyModel.{PlainPolicy}
 use Rattle.sdb_session.specs.Responses.{OutcomeOrInterrupted, RequestOutcome, RequestInterrupted, TextOutcome, TextInterrupted}
 use Rattle.sdb_session.specs.Sessions.{PlainSession}
 use Rattle.sdb_session.specs.View.{OutputUnlessFailed, WroteAnswers}
@@ -60,26 +61,27 @@ module _ {P : Type 0} (acts : PlainKey → CallRelation P) (t : List PlainProjec
     },
   )
 
+module _ {P : Type 0} (acts : PlainKey → CallRelation P) (pol : PlainPolicy) where
   -- ---- a part as the beginning of a request
 
-  module _ (s : PlainSession) (r : PlainRequest) (start : P) (l : PlainListing) (p : P) (opens : ListingOpens acts t s r start l p) (e : PlainEcho) (by now : ℕ) where
+  module _ (s : PlainSession) (r : PlainRequest) (start : P) (l : PlainListing) (p : P) (opens : ListingOpens acts pol.projections s r start l p) (e : PlainEcho) (by now : ℕ) where
     pub part_begins : (E : Type 0) (x : Option Listing) (new : PlainSession) (q : P) (says : List PlainAnswer → Type 0) (stops : PlainSession → P → Type 0)
-        → PartOrFault acts t l s p (Ok x) says new q
-        → PartOutcome {E = E} (listing_result (Ok x)) (RequestOutcome acts e t by now s r start) (ListingBegins acts t s r start) stops says s new q
-    part_begins E None new q says stops h = finished_outcome acts t s e by now r start l p says new q opens h
+        → PartOrFault acts pol.projections l s p (Ok x) says new q
+        → PartOutcome {E = E} (listing_result (Ok x)) (RequestOutcome acts e pol by now s r start) (ListingBegins acts pol.projections s r start) stops says s new q
+    part_begins E None new q says stops h = finished_outcome acts pol s e by now r start l p says new q opens h
     part_begins E (Some rest) new q says stops h = (record { opened = l; between = p; opens = opens; continues = h.0 }, h.1)
 
     -- the message is refused
     pub part_refused : (x : AllocError) (new : PlainSession) (q : P) (before after both : List PlainAnswer → Type 0) (join : (a b : List PlainAnswer) → before a → after b → both (a ++ b))
-        → PartOrFault acts t l s p (Err (NotRead x)) before new q → after (failed e E10 ∷ []) → RequestOutcome acts e t by now s r start both new q
+        → PartOrFault acts pol.projections l s p (Err (NotRead x)) before new q → after (failed e E10 ∷ []) → RequestOutcome acts e pol by now s r start both new q
     part_refused x new q before after both join h said =
-        subst (λ (y : PlainSession). RequestOutcome acts e t by now s r start both y q) (sym h.unchanged)
-        (unread_outcome acts t s e by now r start l p h.after_failure q both opens h.fails h.closes (join [] (failed e E10 ∷ []) h.said said))
+        subst (λ (y : PlainSession). RequestOutcome acts e pol by now s r start both y q) (sym h.unchanged)
+        (unread_outcome acts pol s e by now r start l p h.after_failure q both opens h.fails h.closes (join [] (failed e E10 ∷ []) h.said said))
 
-    pub part_breaks : (x : AllocError) (new : PlainSession) (q : P) (says : List PlainAnswer → Type 0) → PartOrFault acts t l s p (Err (NotWritten x)) says new q
-        → StopsOrDone (RequestOutcome acts e t by now s r start) (RequestInterrupted acts t r) s start new q
-    part_breaks x new q says (inl (same, stop)) = inl (same, inr (opened_interrupted acts t s r start l p q opens stop))
-    part_breaks x new q says (inr done) = inr (finished_outcome acts t s e by now r start l p (λ answers. ⊤) new q opens done)
+    pub part_breaks : (x : AllocError) (new : PlainSession) (q : P) (says : List PlainAnswer → Type 0) → PartOrFault acts pol.projections l s p (Err (NotWritten x)) says new q
+        → StopsOrDone (RequestOutcome acts e pol by now s r start) (RequestInterrupted acts pol.projections r) s start new q
+    part_breaks x new q says (inl (same, stop)) = inl (same, inr (opened_interrupted acts pol s r start l p q opens stop))
+    part_breaks x new q says (inr done) = inr (finished_outcome acts pol s e by now r start l p (λ answers. ⊤) new q opens done)
 
 -- answers appended to earlier ones
 pub wrote_join : {A : Type 0} (f : PlainAnswer → List A) (old mid new : List A) (a b : List PlainAnswer) → WroteAnswers f old mid a → WroteAnswers f mid new b
@@ -100,20 +102,20 @@ stopped_outcome (Err e) done breaks says s p new q is h = h
 
 -- ---- the text of which a listing is left
 
-module _ {P : Type 0} (acts : PlainKey → CallRelation P) (text : List ℕ) (t : List PlainProjection) (by now : ℕ) (s : PlainSession) (p : P) (E : Type 0)
+module _ {P : Type 0} (acts : PlainKey → CallRelation P) (text : List ℕ) (pol : PlainPolicy) (by now : ℕ) (s : PlainSession) (p : P) (E : Type 0)
     (x : Option Listing) (l : Listing) (is : x ≡ Some l) (mid : PlainSession) (m : P) (before : List PlainAnswer → Type 0)
-    (begun : TextPart acts {E = E} text t by now s p (Ok (option_map plain_listing x)) before mid m) where
-  text_begins : TextBegins acts text t s p (plain_listing l) before m × (mid ≡ s)
-  text_begins = subst (λ y. TextPart acts {E = E} text t by now s p (Ok (option_map plain_listing y)) before mid m) is begun
+    (begun : TextPart acts {E = E} text pol by now s p (Ok (option_map plain_listing x)) before mid m) where
+  text_begins : TextBegins acts text pol.projections s p (plain_listing l) before m × (mid ≡ s)
+  text_begins = subst (λ y. TextPart acts {E = E} text pol by now s p (Ok (option_map plain_listing y)) before mid m) is begun
 
   pub text_continues : (F : Type 0) (after both : List PlainAnswer → Type 0) (join : (a b : List PlainAnswer) → before a → after b → both (a ++ b)) (rest : Option PlainListing) (new : PlainSession) (q : P)
-      → ListingPart acts {E = F} t (plain_listing l) mid m (Ok rest) after new q → TextPart acts {E = E} text t by now s p (Ok rest) both new q
+      → ListingPart acts {E = F} pol.projections (plain_listing l) mid m (Ok rest) after new q → TextPart acts {E = E} text pol by now s p (Ok rest) both new q
   text_continues F after both join rest new q part =
-      message_continues acts t s (parse_message text).echo by now p F E (parse_message text).request (plain_listing l) m before after both join _ _ rest new q text_begins.0
-      (subst (λ (y : PlainSession). ListingPart acts {E = F} t (plain_listing l) y m (Ok rest) after new q) text_begins.1 part)
+      message_continues acts pol s (parse_message text).echo by now p F E (parse_message text).request (plain_listing l) m before after both join _ _ rest new q text_begins.0
+      (subst (λ (y : PlainSession). ListingPart acts {E = F} pol.projections (plain_listing l) y m (Ok rest) after new q) text_begins.1 part)
 
-  pub text_stops : (new : PlainSession) (q : P) → InterruptsOrDone (ListingFinishes acts t (plain_listing l) mid m) (ListingInterrupted acts (plain_listing l)) mid m new q
-      → StopsOrDone (TextOutcome acts text t by now s p) (TextInterrupted acts text t) s p new q
+  pub text_stops : (new : PlainSession) (q : P) → InterruptsOrDone (ListingFinishes acts pol.projections (plain_listing l) mid m) (ListingInterrupted acts (plain_listing l)) mid m new q
+      → StopsOrDone (TextOutcome acts text pol by now s p) (TextInterrupted acts text pol.projections) s p new q
   text_stops new q stop =
-      message_stops acts t s (parse_message text).echo by now p (parse_message text).request (plain_listing l) m before new q text_begins.0
-      (subst (λ (y : PlainSession). InterruptsOrDone (ListingFinishes acts t (plain_listing l) y m) (ListingInterrupted acts (plain_listing l)) y m new q) text_begins.1 stop)
+      message_stops acts pol s (parse_message text).echo by now p (parse_message text).request (plain_listing l) m before new q text_begins.0
+      (subst (λ (y : PlainSession). InterruptsOrDone (ListingFinishes acts pol.projections (plain_listing l) y m) (ListingInterrupted acts (plain_listing l)) y m new q) text_begins.1 stop)

@@ -6,6 +6,7 @@ pub mod Documents
 pub mod Handlers
 pub mod Responses
 pub mod PassModel
+pub mod PolicyModel
 pub mod ProjectionModel
 pub mod PumpModel
 pub mod Sessions

@@ -7,6 +7,7 @@ use Rattle.sdb_submit.specs.Calls.{current_version, ops_between, subscribe as su
 use Rattle.sdb_submit.specs.SubmitLoop.{CallRelation, PlainBatch, total_size, entries_of, ReadsBatches, TakesBatches}
 use Rattle.sdb_wire.specs.Wire.{PlainEcho, parse_message, PlainRequest, fetch, subscribe}
 use Rattle.sdb_wire.specs.Answers.{PlainAnswer, list_end, caught_up}
+use Rattle.sdb_session.specs.PolicyModel.{PlainPolicy}
 use Rattle.sdb_session.specs.ProjectionModel.{projection_of_key, base_key}
 use Rattle.sdb_session.specs.Responses.{entry_answers, CloseCalls, RequestOutcome, RequestInterrupted, TextOutcome, TextInterrupted}
 use Rattle.sdb_session.specs.Sessions.{PlainSession, queue_of, is_subscription_full, with_subscription}
@@ -143,18 +144,18 @@ InterruptsOrDone done breaks s p new q = ((new ≡ s) × breaks p q) ⊎ done (�
 
 module _ {P : Type 0} (acts : PlainKey → CallRelation P) {E : Type 0} where
   -- the outcome of a request, of which a listing may be left
-  abbrev pub RequestPart : PlainEcho → List PlainProjection → ℕ → ℕ → PlainSession → PlainRequest → P → Result (Option PlainListing) E
+  abbrev pub RequestPart : PlainEcho → PlainPolicy → ℕ → ℕ → PlainSession → PlainRequest → P → Result (Option PlainListing) E
       → (List PlainAnswer → Type 0) → PlainSession → P → Type 0
-  RequestPart e t by now s r p result says new q =
-      PartOutcome result (RequestOutcome acts e t by now s r p) (ListingBegins acts t s r p)
-      (StopsOrDone (RequestOutcome acts e t by now s r p) (RequestInterrupted acts t r) s p) says s new q
+  RequestPart e pol by now s r p result says new q =
+      PartOutcome result (RequestOutcome acts e pol by now s r p) (ListingBegins acts pol.projections s r p)
+      (StopsOrDone (RequestOutcome acts e pol by now s r p) (RequestInterrupted acts pol.projections r) s p) says s new q
 
   -- the outcome of a text, of which a listing may be left
-  abbrev pub TextPart : List ℕ → List PlainProjection → ℕ → ℕ → PlainSession → P → Result (Option PlainListing) E
+  abbrev pub TextPart : List ℕ → PlainPolicy → ℕ → ℕ → PlainSession → P → Result (Option PlainListing) E
       → (List PlainAnswer → Type 0) → PlainSession → P → Type 0
-  TextPart text t by now s p result says new q =
-      PartOutcome result (TextOutcome acts text t by now s p) (TextBegins acts text t s p)
-      (StopsOrDone (TextOutcome acts text t by now s p) (TextInterrupted acts text t) s p) says s new q
+  TextPart text pol by now s p result says new q =
+      PartOutcome result (TextOutcome acts text pol by now s p) (TextBegins acts text pol.projections s p)
+      (StopsOrDone (TextOutcome acts text pol by now s p) (TextInterrupted acts text pol.projections) s p) says s new q
 
   -- the outcome of the next part of a listing
   abbrev pub ListingPart : List PlainProjection → PlainListing → PlainSession → P → Result (Option PlainListing) E

@@ -11,7 +11,8 @@ use Rattle.sdb_submit.specs.Calls.{current_version, fetch as fetch_call, snapsho
 use Rattle.sdb_submit.specs.SubmitLoop.{CallRelation, SubmitRelation, PlainBatch, total_size, entries_of, TakesBatches, TakesBatchPrefix, ListsAll, ListsPrefix}
 use Rattle.sdb_wire.specs.Wire.{PlainEcho, parse_message, PlainRequest, hello, fetch, subscribe, unsubscribe, submit, snapshot, snapshot_at_time}
 use Rattle.sdb_wire.specs.Answers.{PlainAnswer, hello_ack, fetched, list_end, subscribed, caught_up, unsubscribed, snapshot as snapshot_answer, snapshot_at_time as at_time_answer, op_message, acknowledged, failed}
-use Rattle.sdb_session.specs.ProjectionModel.{projected_entry, projected_value, is_permitted, projection_of_key, base_key}
+use Rattle.sdb_session.specs.PolicyModel.{PlainPolicy, may_submit}
+use Rattle.sdb_session.specs.ProjectionModel.{projected_entry, projected_value, projection_of_key, base_key}
 use Rattle.sdb_session.specs.Sessions.{QueueId, PlainSession, queue_of, is_subscription_full, with_source, with_subscription, without_subscription}
 
 -- ---- replies of a desk to one message
@@ -133,17 +134,18 @@ module _ {P : Type 0} (acts : PlainKey → CallRelation P) where
   SubscribeCalls true b v old p r q = RefuseCalls (acts b) v p r q
   SubscribeCalls false b v old p r q = OpenAndTakeCalls b v old p r q
 
-  -- the calls of the desk for one message, through the projections of a table; `by` is the pass number, `now` the
-  -- moment of the message
-  abbrev pub RequestCalls : List PlainProjection → ℕ → ℕ → PlainSession → (r : PlainRequest) → P → RequestResult r → P → Type 0
-  RequestCalls t by now s (hello n) p r q = q ≡ p
-  RequestCalls t by now s (fetch k v) p r q = FetchCalls (acts (base_key t k)) v p r q
-  RequestCalls t by now s (submit k v n src m) p r q =
-      SubmitCalls (acts (base_key t k)) (is_permitted (projection_of_key t k) m) (submission_of s k v n src m by) now p r q
-  RequestCalls t by now s (snapshot k v n) p r q = acts (base_key t k) (snapshot_call v) p r q
-  RequestCalls t by now s (snapshot_at_time k m n) p r q = acts (base_key t k) (at_time_call m) p r q
-  RequestCalls t by now s (subscribe k v) p r q = SubscribeCalls (is_subscription_full k s.subs) (base_key t k) v (queue_of k s.subs) p r q
-  RequestCalls t by now s (unsubscribe k) p r q = CloseCalls (queue_of k s.subs) p q
+  -- the calls of the desk for one message, under a policy; `by` is the pass number, `now` the moment of the message
+  abbrev pub RequestCalls : PlainPolicy → ℕ → ℕ → PlainSession → (r : PlainRequest) → P → RequestResult r → P → Type 0
+  RequestCalls pol by now s (hello n) p r q = q ≡ p
+  RequestCalls pol by now s (fetch k v) p r q = FetchCalls (acts (base_key pol.projections k)) v p r q
+  RequestCalls pol by now s (submit k v n src m) p r q =
+      SubmitCalls (acts (base_key pol.projections k)) (may_submit pol (unwrap_or src s.source) k m)
+      (submission_of s k v n src m by) now p r q
+  RequestCalls pol by now s (snapshot k v n) p r q = acts (base_key pol.projections k) (snapshot_call v) p r q
+  RequestCalls pol by now s (snapshot_at_time k m n) p r q = acts (base_key pol.projections k) (at_time_call m) p r q
+  RequestCalls pol by now s (subscribe k v) p r q =
+      SubscribeCalls (is_subscription_full k s.subs) (base_key pol.projections k) v (queue_of k s.subs) p r q
+  RequestCalls pol by now s (unsubscribe k) p r q = CloseCalls (queue_of k s.subs) p q
 
 -- ---- answers to the reply
 
@@ -207,24 +209,24 @@ response_of e t s (unsubscribe k) r = record { answers = unsubscribed k ∷ []; 
 
 -- ---- one message at a moment: the desk gives a reply, and the session's response follows from it
 module _ {P : Type 0} (acts : PlainKey → CallRelation P) where
-  pub record RequestOutcome (e : PlainEcho) (t : List PlainProjection) (by now : ℕ) (s : PlainSession) (r : PlainRequest) (p : P)
+  pub record RequestOutcome (e : PlainEcho) (pol : PlainPolicy) (by now : ℕ) (s : PlainSession) (r : PlainRequest) (p : P)
       (says : List PlainAnswer → Type 0) (new : PlainSession) (q : P) : Type 0 where
     pub reply : RequestResult r
-    pub calls : RequestCalls acts t by now s r p reply q
-    pub session_is : new ≡ (response_of e t s r reply).session
-    pub said : says (response_of e t s r reply).answers
+    pub calls : RequestCalls acts pol by now s r p reply q
+    pub session_is : new ≡ (response_of e pol.projections s r reply).session
+    pub said : says (response_of e pol.projections s r reply).answers
 
   -- a message without a request is refused, and nothing changes
-  abbrev pub MessageOutcome : PlainEcho → Result PlainRequest Code → List PlainProjection → ℕ → ℕ → PlainSession → P
+  abbrev pub MessageOutcome : PlainEcho → Result PlainRequest Code → PlainPolicy → ℕ → ℕ → PlainSession → P
       → (List PlainAnswer → Type 0) → PlainSession → P → Type 0
-  MessageOutcome e (Ok r) t by now s p says new q = RequestOutcome e t by now s r p says new q
-  MessageOutcome e (Err code) t by now s p says new q = (q ≡ p) × (new ≡ s) × says (failed e code ∷ [])
+  MessageOutcome e (Ok r) pol by now s p says new q = RequestOutcome e pol by now s r p says new q
+  MessageOutcome e (Err code) pol by now s p says new q = (q ≡ p) × (new ≡ s) × says (failed e code ∷ [])
 
   -- the outcome of one text
-  abbrev pub TextOutcome : List ℕ → List PlainProjection → ℕ → ℕ → PlainSession → P → (List PlainAnswer → Type 0) → PlainSession
+  abbrev pub TextOutcome : List ℕ → PlainPolicy → ℕ → ℕ → PlainSession → P → (List PlainAnswer → Type 0) → PlainSession
       → P → Type 0
-  TextOutcome text t by now s p says new q =
-      MessageOutcome (parse_message text).echo (parse_message text).request t by now s p says new q
+  TextOutcome text pol by now s p says new q =
+      MessageOutcome (parse_message text).echo (parse_message text).request pol by now s p says new q
 
 module _ {P : Type 0} (acts : PlainKey → CallRelation P) where
   -- an interrupted request has listed some entries, or has opened a queue and closed it again

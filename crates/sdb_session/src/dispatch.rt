@@ -13,6 +13,7 @@ use crate::answers::write_answer;
 use crate::context::Context;
 use crate::documents::{ReadPoint, answer_document};
 use crate::listing::Listing;
+use crate::policy::Policy;
 use crate::session::Session;
 use crate::submit_request::SubmitArgs;
 use sdb_submit::Desk;
@@ -21,16 +22,16 @@ use std::alloc::AllocError;
 
 impl Session {
     // Handles a request, or begins the listing that answers it.
-    pub(crate) fn answer_request<D: Desk, O: AnswerSink>(
+    pub(crate) fn answer_request<D: Desk, P: Policy, O: AnswerSink>(
         &mut self,
-        context: &Context<'_, '_, '_, D>,
+        context: &Context<'_, '_, '_, D, P>,
         pass: &mut D::Pass,
         request: Request,
         out: &mut O,
     ) -> Result<Option<Listing>, AllocError>
         requires accepted { D.accepts context.now.desk.now pass.old }
         ensures pass { IsNextPass D.accepts D.pass_number context.now.desk.now pass.old pass.new }
-        ensures outcome { RequestHandled D.step D.pass_number context.now (plain_session self.old)
+        ensures outcome { RequestHandled D.step D.pass_number P.plain_policy context.now (plain_session self.old)
             (plain_request request) pass.old (listing_result result)
             (WroteAnswers O.items (O.contents out.old) (O.contents out.new))
             (plain_session self.new) pass.new }

@@ -14,6 +14,7 @@ ghost use Rattle.sdb_wire.specs.View.{document_answer};
 use crate::answer_sink::AnswerSink;
 use crate::answers::{write_document, write_refusal};
 use crate::context::Context;
+use crate::policy::Policy;
 use crate::projection::{base_key_or, projected_base_key};
 use sdb_desk::FetchResult;
 use sdb_oplog::{Code, Key, Moment};
@@ -32,8 +33,8 @@ pub(crate) enum ReadPoint {
 }
 
 // Writes the document that a request asks for.
-pub(crate) fn answer_document<D: Desk, O: AnswerSink>(
-    context: &Context<'_, '_, '_, D>,
+pub(crate) fn answer_document<D: Desk, P: Policy, O: AnswerSink>(
+    context: &Context<'_, '_, '_, D, P>,
     pass: &mut D::Pass,
     key: &Key,
     point: ReadPoint,
@@ -41,7 +42,7 @@ pub(crate) fn answer_document<D: Desk, O: AnswerSink>(
 ) -> Result<(), AllocError>
     requires accepted { D.accepts context.now.desk.now pass.old }
     ensures pass { IsNextPass D.accepts D.pass_number context.now.desk.now pass.old pass.new }
-    ensures outcome { (s : PlainSession) → RequestHandled D.step D.pass_number context.now s
+    ensures outcome { (s : PlainSession) → RequestHandled D.step D.pass_number P.plain_policy context.now s
         (document_request (plain_key key.now) point) pass.old (done_result result)
         (WroteAnswers O.items (O.contents out.old) (O.contents out.new)) s pass.new }
 {

@@ -9,6 +9,7 @@ mod documents;
 mod interner;
 mod list_request;
 mod listing;
+mod policy;
 mod projection;
 mod pump;
 mod session;
@@ -18,5 +19,6 @@ mod subscriptions;
 
 pub use answer_sink::AnswerSink;
 pub use listing::Listing;
+pub use policy::Policy;
 pub use pump::Pumped;
 pub use session::{Ended, Progress, Session};

@@ -5,7 +5,7 @@ ghost use Rattle.std.specs.Result.{is_err};
 ghost use Rattle.indexmap.specs.IndexMap.{spare};
 ghost use Rattle.sdb_oplog.specs.Keys.{plain_key};
 ghost use Rattle.sdb_session.specs.PassModel.{IsNextPass};
-ghost use Rattle.sdb_session.specs.Handlers.{RequestHandled};
+ghost use Rattle.sdb_session.specs.Handlers.{RequestHandled, policy_of_context};
 ghost use Rattle.sdb_session.specs.Listing.{ListingOpens, ListingPart, ReplacesQueue, RequestPart, end_answer, entries_left};
 ghost use Rattle.sdb_session.specs.ListingView.{plain_listing, listing_result, PartOrFault};
 ghost use Rattle.sdb_session.specs.View.{plain_session, echo_of_message, has_ended, WroteAnswers};
@@ -16,6 +16,7 @@ use crate::answers::{write_answer, write_refusal};
 use crate::context::Context;
 use crate::dispatch::without_listing;
 use crate::listing::{BatchFault, Listing};
+use crate::policy::Policy;
 use crate::projection::base_key;
 use crate::session::{Ended, Session};
 use crate::subscriptions::Subscription;
@@ -27,9 +28,9 @@ use std::alloc::AllocError;
 
 impl Session {
     // Begins to write the entries from a version on, up to the current version.
-    pub(crate) fn fetch_operations<D: Desk, O: AnswerSink>(
+    pub(crate) fn fetch_operations<D: Desk, P: Policy, O: AnswerSink>(
         &mut self,
-        context: &Context<'_, '_, '_, D>,
+        context: &Context<'_, '_, '_, D, P>,
         pass: &mut D::Pass,
         key: Key,
         from: u64,
@@ -37,7 +38,7 @@ impl Session {
     ) -> Result<Option<Listing>, AllocError>
         requires accepted { D.accepts context.now.desk.now pass.old }
         ensures pass { IsNextPass D.accepts D.pass_number context.now.desk.now pass.old pass.new }
-        ensures outcome { RequestHandled D.step D.pass_number context.now (plain_session self.old)
+        ensures outcome { RequestHandled D.step D.pass_number P.plain_policy context.now (plain_session self.old)
             (fetch (plain_key key) (Some from)) pass.old (listing_result result)
             (WroteAnswers O.items (O.contents out.old) (O.contents out.new))
             (plain_session self.new) pass.new }
@@ -61,9 +62,9 @@ impl Session {
 
     // Writes the first entries of a listing. If an allocation fails before that, the message is
     // refused.
-    pub(crate) fn begin_listing<D: Desk, O: AnswerSink>(
+    pub(crate) fn begin_listing<D: Desk, P: Policy, O: AnswerSink>(
         &mut self,
-        context: &Context<'_, '_, '_, D>,
+        context: &Context<'_, '_, '_, D, P>,
         pass: &mut D::Pass,
         listing: Listing,
         out: &mut O,
@@ -74,7 +75,8 @@ impl Session {
             → ListingOpens (D.step context.now.desk.now) context.now.table.now (plain_session self.old) r p
             (plain_listing listing) pass.old
             → RequestPart (D.step context.now.desk.now) (echo_of_message context.now.message)
-            context.now.table.now by context.now.moment (plain_session self.old) r p (listing_result result)
+            (policy_of_context P.plain_policy context.now) by context.now.moment (plain_session self.old) r p
+            (listing_result result)
             (WroteAnswers O.items (O.contents out.old) (O.contents out.new))
             (plain_session self.new) pass.new }
         ensures ended_unchanged { self.new.ended ≡ self.old.ended }

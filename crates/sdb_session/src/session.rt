@@ -15,11 +15,11 @@ use crate::answers::{write_answer, write_refusal};
 use crate::context::Context;
 use crate::interner::NameInterner;
 use crate::listing::Listing;
+use crate::policy::Policy;
 use crate::subscriptions::Subscription;
 use indexmap::IndexMap;
 use sdb_json::Scratch;
 use sdb_oplog::{Code, Key, Moment, PathInterner};
-use sdb_projection::Table;
 use sdb_submit::Desk;
 use sdb_wire::{Answer, Message, empty_echo, parse_message, reply_text};
 use std::alloc::{AllocError, Global};
@@ -139,11 +139,11 @@ impl Session {
     /// let answer = r#"{"a":"f","c":"b","d":"1","data":{"type":null,"v":0}}"#;
     /// assert!(rt; texts.iter().all(|text| text.as_str() == answer));
     /// ```
-    pub fn handle<D: Desk>(
+    pub fn handle<D: Desk, P: Policy>(
         &mut self,
         desk: &D,
         pass: &mut D::Pass,
-        table: &Table,
+        policy: &P,
         text: &str,
         now: Moment,
     ) -> Result<Vec<String>, Ended>
@@ -156,14 +156,14 @@ impl Session {
         ensures no_call_after_end { has_ended self.old ≡ true →
             (pass.new ≡ pass.old) × (plain_session self.new ≡ plain_session self.old) }
         ensures outcome { OutcomeOrInterrupted result
-            (TextOutcome (D.step desk.now) text.now table.now (D.pass_number desk.now pass.old) now
-            (plain_session self.old) pass.old)
-            (TextInterrupted (D.step desk.now) text.now table.now)
+            (TextOutcome (D.step desk.now) text.now (P.plain_policy policy.now)
+            (D.pass_number desk.now pass.old) now (plain_session self.old) pass.old)
+            (TextInterrupted (D.step desk.now) text.now (P.plain_policy policy.now).projections)
             (λ answers. IfOk result (λ texts. map string_bytes texts.items ≡ map answer_text answers))
             (plain_session self.old) pass.old (plain_session self.new) pass.new }
     {
         let mut texts = Vec::new(self.alloc);
-        match self.handle_to(desk, pass, table, text, now, &mut texts) {
+        match self.handle_to(desk, pass, policy, text, now, &mut texts) {
             Ok(_) => Ok(texts),
             Err(ended) => Err(ended),
         }
@@ -180,11 +180,11 @@ impl Session {
     /// [`Ended`] if an allocation fails for a parsed message, a name or an answer, or if the
     /// session had ended. Each later call fails too. Stored operations stay stored, and `out` is
     /// unspecified.
-    pub fn handle_to<D: Desk, O: AnswerSink>(
+    pub fn handle_to<D: Desk, P: Policy, O: AnswerSink>(
         &mut self,
         desk: &D,
         pass: &mut D::Pass,
-        table: &Table,
+        policy: &P,
         text: &str,
         now: Moment,
         out: &mut O,
@@ -201,18 +201,18 @@ impl Session {
         // After an error nothing was called, or a listing was interrupted, or all calls were made
         // and not all answers were written. A queue opened for the message is then closed again.
         ensures outcome { OutcomeOrInterrupted result
-            (TextOutcome (D.step desk.now) text.now table.now (D.pass_number desk.now pass.old) now
-            (plain_session self.old) pass.old)
-            (TextInterrupted (D.step desk.now) text.now table.now)
+            (TextOutcome (D.step desk.now) text.now (P.plain_policy policy.now)
+            (D.pass_number desk.now pass.old) now (plain_session self.old) pass.old)
+            (TextInterrupted (D.step desk.now) text.now (P.plain_policy policy.now).projections)
             (WroteAnswers O.items (O.contents out.old) (O.contents out.new))
             (plain_session self.old) pass.old (plain_session self.new) pass.new }
     {
-        let mut rest = match self.begin_to(desk, pass, table, text, now, out)? {
+        let mut rest = match self.begin_to(desk, pass, policy, text, now, out)? {
             Progress::Done { is_request } => return Ok(is_request),
             Progress::Listing(listing) => Some(listing),
         };
         while let Some(listing) = rest {
-            rest = self.continue_to(desk, pass, table, listing, out)?;
+            rest = self.continue_to(desk, pass, policy.table(), listing, out)?;
         }
         Ok(true)
     }
@@ -224,11 +224,11 @@ impl Session {
     /// # Errors
     ///
     /// As [`Session::handle_to`].
-    pub fn begin_to<D: Desk, O: AnswerSink>(
+    pub fn begin_to<D: Desk, P: Policy, O: AnswerSink>(
         &mut self,
         desk: &D,
         pass: &mut D::Pass,
-        table: &Table,
+        policy: &P,
         text: &str,
         now: Moment,
         out: &mut O,
@@ -242,24 +242,24 @@ impl Session {
         // An ended session doesn't call the desk.
         ensures no_call_after_end { has_ended self.old ≡ true →
             (pass.new ≡ pass.old) × (plain_session self.new ≡ plain_session self.old) }
-        ensures outcome { TextPart (D.step desk.now) text.now table.now (D.pass_number desk.now pass.old) now
-            (plain_session self.old) pass.old (progress_result result)
+        ensures outcome { TextPart (D.step desk.now) text.now (P.plain_policy policy.now)
+            (D.pass_number desk.now pass.old) now (plain_session self.old) pass.old (progress_result result)
             (WroteAnswers O.items (O.contents out.old) (O.contents out.new)) (plain_session self.new) pass.new }
     {
         if let Some(ended) = self.ended {
             return Err(ended);
         }
-        match self.answer(desk, pass, table, text, now, out) {
+        match self.answer(desk, pass, policy, text, now, out) {
             Ok(progress) => Ok(progress),
             Err(error) => Err(self.end_with_error(error)),
         }
     }
 
-    fn answer<'a, D: Desk, O: AnswerSink>(
+    fn answer<'a, D: Desk, P: Policy, O: AnswerSink>(
         &mut self,
         desk: &'a D,
         pass: &mut D::Pass,
-        table: &'a Table,
+        policy: &'a P,
         text: &str,
         now: Moment,
         out: &mut O,
@@ -268,8 +268,8 @@ impl Session {
         ensures pass { IsNextPass D.accepts D.pass_number desk.now pass.old pass.new }
         ensures request { IfOk result (λ p. is_request_of p ≡ is_ok (parse_message text.now).request) }
         ensures ended_unchanged { self.new.ended ≡ self.old.ended }
-        ensures outcome { TextPart (D.step desk.now) text.now table.now (D.pass_number desk.now pass.old) now
-            (plain_session self.old) pass.old (progress_result result)
+        ensures outcome { TextPart (D.step desk.now) text.now (P.plain_policy policy.now)
+            (D.pass_number desk.now pass.old) now (plain_session self.old) pass.old (progress_result result)
             (WroteAnswers O.items (O.contents out.old) (O.contents out.new)) (plain_session self.new) pass.new }
     {
         let mut scratch = self.take_scratch()?;
@@ -279,7 +279,8 @@ impl Session {
             let context = Context {
                 alloc: self.alloc,
                 desk,
-                table,
+                table: policy.table(),
+                policy,
                 message,
                 moment: now,
             };

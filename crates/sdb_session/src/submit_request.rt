@@ -1,19 +1,22 @@
 //! Requests that submit an operation.
-ghost use Rattle.std.specs.Prelude.{◌≡◌, IfOk, option_map, string_bytes};
+ghost use Rattle.std.specs.Prelude.{◌≡◌, ◌&&◌, IfOk, option_map, unwrap_or, string_bytes};
 ghost use Rattle.sdb_oplog.specs.Keys.{plain_key};
 ghost use Rattle.sdb_session.specs.Handlers.{RequestHandled};
 ghost use Rattle.sdb_session.specs.ListingView.{done_result};
 ghost use Rattle.sdb_session.specs.PassModel.{IsNextPass};
+ghost use Rattle.sdb_session.specs.ProjectionModel.{is_permitted};
 ghost use Rattle.sdb_session.specs.Responses.{submission_of};
-ghost use Rattle.sdb_session.specs.View.{plain_session, WroteAnswers};
+ghost use Rattle.sdb_session.specs.View.{plain_session, plain_projection_option, WroteAnswers};
 ghost use Rattle.sdb_wire.specs.Wire.{submit};
 
 use crate::answer_sink::AnswerSink;
 use crate::answers::{write_refusal, write_reply};
 use crate::context::Context;
+use crate::policy::Policy;
 use crate::projection::{DocumentRef, base_key_or, permits, projected_base_key};
 use crate::session::Session;
 use sdb_oplog::{Code, Content, Key, Submission};
+use sdb_projection::Projection;
 use sdb_submit::{Desk, NoGate, submit};
 use std::alloc::AllocError;
 
@@ -28,9 +31,9 @@ pub(crate) struct SubmitArgs {
 
 impl Session {
     // Submits an operation and writes the reply.
-    pub(crate) fn submit<D: Desk, O: AnswerSink>(
+    pub(crate) fn submit<D: Desk, P: Policy, O: AnswerSink>(
         &mut self,
-        context: &Context<'_, '_, '_, D>,
+        context: &Context<'_, '_, '_, D, P>,
         pass: &mut D::Pass,
         key: &Key,
         sent: SubmitArgs,
@@ -38,7 +41,7 @@ impl Session {
     ) -> Result<(), AllocError>
         requires accepted { D.accepts context.now.desk.now pass.old }
         ensures pass { IsNextPass D.accepts D.pass_number context.now.desk.now pass.old pass.new }
-        ensures outcome { RequestHandled D.step D.pass_number context.now (plain_session self.old)
+        ensures outcome { RequestHandled D.step D.pass_number P.plain_policy context.now (plain_session self.old)
             (submit (plain_key key.now) sent.version sent.seq (option_map string_bytes sent.src) sent.content)
             pass.old (done_result result)
             (WroteAnswers O.items (O.contents out.old) (O.contents out.new))
@@ -47,7 +50,7 @@ impl Session {
     {
         let alloc = context.alloc;
         let projection = context.table.find(key.collection.as_str());
-        if !permits(projection, &sent.content) {
+        if !self.may_submit(context.policy, projection, key, &sent) {
             return write_refusal(alloc, context.message, Code::E9, out);
         }
         let moved = projected_base_key(projection, key)?;
@@ -62,6 +65,26 @@ impl Session {
         let copy = submission.try_clone()?;
         let reply = submit(alloc, desk, pass, base, copy, context.moment, &NoGate);
         write_reply(alloc, &target, context.message, &submission, &reply, out)
+    }
+
+    // Returns whether the policy allows the submission, and the projection permits its content.
+    fn may_submit<P: Policy>(
+        &self,
+        policy: &P,
+        projection: Option<&Projection>,
+        key: &Key,
+        sent: &SubmitArgs,
+    ) -> bool
+        ensures { result ≡ ((P.plain_policy policy.now).allows
+            (unwrap_or (option_map string_bytes sent.now.src) (plain_session self.now).source)
+            (plain_key key.now) sent.now.content
+            && is_permitted (plain_projection_option projection.entry) sent.now.content) }
+    {
+        let source = match &sent.src {
+            Some(given) => given.as_str(),
+            None => self.source.as_str(),
+        };
+        policy.allows(source, key, &sent.content) && permits(projection, &sent.content)
     }
 
     // Creates a message's submission. Without a source it gets the session's.

@@ -16,6 +16,7 @@ use crate::answers::{write_answer, write_refusal, write_subscribed_document};
 use crate::context::Context;
 use crate::dispatch::without_listing;
 use crate::listing::Listing;
+use crate::policy::Policy;
 use crate::projection::base_key;
 use crate::session::{SUBSCRIPTION_LIMIT, Session};
 use crate::subscriptions::{Subscription, close_queue};
@@ -36,9 +37,9 @@ struct OpenedQueue {
 
 impl Session {
     // Subscribes. The old queue of the key is closed after the new one is open.
-    pub(crate) fn subscribe<D: Desk, O: AnswerSink>(
+    pub(crate) fn subscribe<D: Desk, P: Policy, O: AnswerSink>(
         &mut self,
-        context: &Context<'_, '_, '_, D>,
+        context: &Context<'_, '_, '_, D, P>,
         pass: &mut D::Pass,
         key: Key,
         version: Option<u64>,
@@ -46,7 +47,7 @@ impl Session {
     ) -> Result<Option<Listing>, AllocError>
         requires accepted { D.accepts context.now.desk.now pass.old }
         ensures pass { IsNextPass D.accepts D.pass_number context.now.desk.now pass.old pass.new }
-        ensures outcome { RequestHandled D.step D.pass_number context.now (plain_session self.old)
+        ensures outcome { RequestHandled D.step D.pass_number P.plain_policy context.now (plain_session self.old)
             (subscribe (plain_key key) version) pass.old (listing_result result)
             (WroteAnswers O.items (O.contents out.old) (O.contents out.new))
             (plain_session self.new) pass.new }

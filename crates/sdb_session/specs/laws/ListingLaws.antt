@@ -11,6 +11,7 @@ use Rattle.sdb_submit.specs.SubmitLoop.{CallRelation, PlainBatch, total_size, en
 use Rattle.sdb_wire.specs.Wire.{PlainEcho, PlainRequest, hello, fetch, subscribe, unsubscribe, submit, snapshot, snapshot_at_time}
 use Rattle.sdb_wire.specs.Answers.{PlainAnswer, failed}
 use Rattle.sdb_session.specs.Listing.{PlainListing, entries_left, end_answer, ReadsFrom, FailsToRead, ClosesNewQueue, ListingOpens, ListingContinues, ListingFinishes, ListingInterrupted, MessageBegins, PartOutcome, StopsOrDone, InterruptsOrDone}
+use Rattle.sdb_session.specs.PolicyModel.{PlainPolicy}
 use Rattle.sdb_session.specs.ProjectionModel.{projection_of_key, base_key}
 use Rattle.sdb_session.specs.Responses.{PlainSubscribeReply, entry_answers, FailsToTake, OpensAndTakes, OpensAndCloses, SubscribeCalls, RequestOutcome, RequestInterrupted, MessageOutcome, MessageInterrupted}
 use Rattle.sdb_session.specs.Sessions.{PlainSession, queue_of}
@@ -123,10 +124,13 @@ module _ {P : Type 0} (acts : PlainKey → CallRelation P) where
 
   -- ---- the request that a listing answers
 
-  module _ (t : List PlainProjection) (s : PlainSession) where
+  module _ (pol : PlainPolicy) (s : PlainSession) where
+    abbrev t : List PlainProjection
+    t = pol.projections
+
     -- all entries are written
     pub finished_outcome : (e : PlainEcho) (by now : ℕ) (r : PlainRequest) (p : P) (l : PlainListing) (m : P) (says : List PlainAnswer → Type 0) (new : PlainSession) (q : P)
-        → ListingOpens acts t s r p l m → ListingFinishes acts t l s m says new q → RequestOutcome acts e t by now s r p says new q
+        → ListingOpens acts t s r p l m → ListingFinishes acts t l s m says new q → RequestOutcome acts e pol by now s r p says new q
     finished_outcome e by now (fetch k (Some v)) p l m says new q o fin =
         let a = subst (λ (x : PlainListing). ListingFinishes acts t x s m says new q) o.listing_is fin in
         let b = base_key t k in
@@ -203,7 +207,7 @@ module _ {P : Type 0} (acts : PlainKey → CallRelation P) where
     -- an allocation fails before the first entry
     pub unread_outcome : (e : PlainEcho) (by now : ℕ) (r : PlainRequest) (p : P) (l : PlainListing) (m n q : P) (says : List PlainAnswer → Type 0)
         → ListingOpens acts t s r p l m → FailsToRead acts l.queue l.base l.next l.end m n → ClosesNewQueue acts l.queue l.base n q → says (failed e E10 ∷ [])
-        → RequestOutcome acts e t by now s r p says s q
+        → RequestOutcome acts e pol by now s r p says s q
     unread_outcome e by now (fetch k (Some v)) p l m n q says o fails closes said =
         let b = base_key t k in
         let f = subst (λ (x : PlainListing). FailsToRead acts x.queue x.base x.next x.end m n) o.listing_is fails in
@@ -249,7 +253,7 @@ module _ {P : Type 0} (acts : PlainKey → CallRelation P) where
           (join : (a b : List PlainAnswer) → before a → after b → both (a ++ b)) (stops stops' : PlainSession → P → Type 0) (rest : Option PlainListing) (new : PlainSession) (q : P)
           → MessageBegins acts request t s p l before m
           → PartOutcome {E = E} (Ok rest) (ListingFinishes acts t l s m) (ListingContinues acts t l m) stops after s new q
-          → PartOutcome {E = F} (Ok rest) (MessageOutcome acts e request t by now s p) (MessageBegins acts request t s p) stops' both s new q
+          → PartOutcome {E = F} (Ok rest) (MessageOutcome acts e request pol by now s p) (MessageBegins acts request t s p) stops' both s new q
       message_continues E F (Ok r) l m before after both join stops stops' None new q a b =
           finished_outcome e by now r p a.opened a.between both new q a.opens (continues_finishes t before after both join a.opened l s new a.between m q a.continues b)
       message_continues E F (Ok r) l m before after both join stops stops' (Some rest) new q a b =
@@ -259,7 +263,7 @@ module _ {P : Type 0} (acts : PlainKey → CallRelation P) where
       -- an allocation fails for the rest of the listing
       pub message_stops : (request : Result PlainRequest Code) (l : PlainListing) (m : P) (before : List PlainAnswer → Type 0) (new : PlainSession) (q : P)
           → MessageBegins acts request t s p l before m → InterruptsOrDone (ListingFinishes acts t l s m) (ListingInterrupted acts l) s m new q
-          → StopsOrDone (MessageOutcome acts e request t by now s p) (MessageInterrupted acts t request) s p new q
+          → StopsOrDone (MessageOutcome acts e request pol by now s p) (MessageInterrupted acts t request) s p new q
       message_stops (Ok r) l m before new q a (inl (same, stop)) =
           inl (same, inr (opened_interrupted r p a.opened a.between q a.opens (continues_interrupted t before a.opened l a.between m q a.continues stop)))
       message_stops (Ok r) l m before new q a (inr done) =

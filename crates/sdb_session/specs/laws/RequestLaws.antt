@@ -13,6 +13,7 @@ use Rattle.sdb_submit.specs.SubmitLoop.{CallRelation, PlainBatch, total_size, en
 use Rattle.sdb_submit.specs.laws.SubmitLaws.{submit_is_atomic, lists_all_is_operations}
 use Rattle.sdb_wire.specs.Wire.{PlainEcho, parse_message, PlainRequest, hello, fetch, subscribe, unsubscribe, submit, snapshot, snapshot_at_time}
 use Rattle.sdb_wire.specs.Answers.{PlainAnswer, failed}
+use Rattle.sdb_session.specs.PolicyModel.{table_policy}
 use Rattle.sdb_session.specs.ProjectionModel.{base_key, projection_of_key, is_permitted}
 use Rattle.sdb_session.specs.Sessions.{QueueId, PlainSession, queue_of, is_subscription_full}
 use Rattle.sdb_session.specs.Responses.{ReadResult, RequestResult, PlainSubscribeReply, response_of, submission_of, first_batch_len, limit_code, fetch_answers, list_answers, read_answers, submit_answers, snapshot_answers, moment_answers, subscribe_response, FetchCalls, SubmitCalls, RefuseCalls, CloseCalls, FailsToTake, OpenAndTakeCalls, SubscribeCalls, RequestCalls, MessageOutcome, TextOutcome}
@@ -299,7 +300,7 @@ module _ {P : Type 0} (machine : P → Machine) where
 
     -- ---- all messages
 
-    request_output : (r : PlainRequest) (reply : RequestResult r) → RequestCalls MachineActs t 0 now s r p reply q
+    request_output : (r : PlainRequest) (reply : RequestResult r) → RequestCalls MachineActs (table_policy t) 0 now s r p reply q
         → new ≡ (response_of e t s r reply).session → says (response_of e t s r reply).answers → Finds t e now r s p says new q
     request_output (hello n) r h is said = replies (hello n) r refl (pass_same h) is said
     request_output (fetch k v) r h is said = fetch_output k v r h is said
@@ -310,14 +311,14 @@ module _ {P : Type 0} (machine : P → Machine) where
         joined_output (is_subscription_full k s.subs) k v r refl (subscribes (is_subscription_full k s.subs) k v r h) is said
     request_output (unsubscribe k) r h is said = unsubscribe_output k r (closes (queue_of k s.subs) p h) is said
 
-    message_output : (r : Result PlainRequest Code) → MessageOutcome MachineActs e r t 0 now s p says new q
+    message_output : (r : Result PlainRequest Code) → MessageOutcome MachineActs e r (table_policy t) 0 now s p says new q
         → (w : Allocation) × IsTransition (transition_of_message t (state_at p s) now w e r) says new q
     message_output (Ok r) h = request_output r h.reply h.calls h.session_is h.said
     message_output (Err code) h = (ok, (h.2, same_state (machine p) (machine q) s new (pass_same h.0) h.1))
 
   -- the answers to one text are the dialogue's
   pub answers_output : (text : List ℕ) (t : List PlainProjection) (now : ℕ) (s : PlainSession) (p : P)
-      (says : List PlainAnswer → Type 0) (new : PlainSession) (q : P) → TextOutcome MachineActs text t 0 now s p says new q
+      (says : List PlainAnswer → Type 0) (new : PlainSession) (q : P) → TextOutcome MachineActs text (table_policy t) 0 now s p says new q
       → (w : Allocation) × IsTransition (transition_of_line t (state_at p s) now w (Some text)) says new q
   answers_output text t now s p says new q h =
       message_output t (parse_message text).echo now s p says new q (parse_message text).request h

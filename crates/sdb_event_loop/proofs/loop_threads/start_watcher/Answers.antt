@@ -7,5 +7,7 @@ pub spawn-requires-send-F : goal.spawn-requires-send-F
 spawn-requires-send-F g c κs within =
     let send = c.type_bounds.send-R in
     let sync = c.type_bounds.sync-R in
+    let policy_send = c.type_bounds.send-P in
+    let policy_sync = c.type_bounds.sync-P in
     let brand_send = c.type_bounds.send-B in
     search (LoopSlots-send, LoopSlots-sync, sendable, crosses) depth 40

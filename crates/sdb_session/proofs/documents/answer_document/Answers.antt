@@ -5,6 +5,7 @@ use Rattle.sdb_projection.specs.Table.{projection_of}
 use Rattle.sdb_value.specs.View.{value_of}
 use Rattle.sdb_session.specs.ProjectionModel.{base_of, projected_value, projection_of_key}
 use Rattle.sdb_session.specs.View.{plain_projection_option, echo_of_message, WroteAnswers}
+use Rattle.sdb_session.specs.Handlers.{policy_of_context}
 use Rattle.sdb_session.proofs.ResponseLemmas.{answered, document_answers, document_outcome, on_output}
 use Rattle.sdb_session.proofs.documents.answer_document.Goals as goal
 
@@ -22,7 +23,7 @@ returns-in-Ok-clause-outcome g c = λ s.
     let named = c.request_at-request.ensures f.version (option_map (projected_value o) (option_map value_of f.snapshot)) in
     let said = subst (λ a. OnOk c.write_document.result (says (a ∷ []))) named c.write_document.ensures in
     answered _ _ _ _ _ s _ says s _ _ c.write_document.result
-    (document_outcome k seen c.args.point (plain_key c.base_key_or-base.result.now) r base c.in-Ok.ensures.reads (on_output c.write_document.result says (document_answers e o k c.args.point r) said))
+    (document_outcome (policy_of_context g.P.Policy.plain_policy c.args.context.now) k seen c.args.point (plain_key c.base_key_or-base.result.now) r base c.in-Ok.ensures.reads (on_output c.write_document.result says (document_answers e o k c.args.point r) said))
 
 pub returns-clause-outcome : goal.returns-clause-outcome
 returns-clause-outcome g c = λ s.
@@ -35,4 +36,4 @@ returns-clause-outcome g c = λ s.
     let says = WroteAnswers g.O.AnswerSink.items (g.O.AnswerSink.contents c.args.out.now) (g.O.AnswerSink.contents c.write_refusal.new.out) in
     let r = fetch_result_view (Err c.in-Err.code) in
     answered _ _ _ _ _ s _ says s _ _ c.write_refusal.result
-    (document_outcome k seen c.args.point (plain_key c.base_key_or-base.result.now) r base c.in-Err.ensures.reads (on_output c.write_refusal.result says (document_answers e o k c.args.point r) c.write_refusal.ensures))
+    (document_outcome (policy_of_context g.P.Policy.plain_policy c.args.context.now) k seen c.args.point (plain_key c.base_key_or-base.result.now) r base c.in-Err.ensures.reads (on_output c.write_refusal.result says (document_answers e o k c.args.point r) c.write_refusal.ensures))

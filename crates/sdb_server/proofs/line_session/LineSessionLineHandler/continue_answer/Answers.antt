@@ -11,6 +11,7 @@ use Rattle.sdb_session.specs.View.{plain_session, WroteAnswers}
 use Rattle.sdb_session.specs.Listing.{ListingPart, PlainListing}
 use Rattle.sdb_session.specs.ListingView.{plain_listing}
 use Rattle.sdb_session.specs.declared.listing.Listing.{Listing}
+use Rattle.sdb_session.specs.PolicyModel.{table_policy}
 use Rattle.sdb_session.specs.laws.ListingLaws.{message_continues}
 use Rattle.sdb_session.specs.laws.SessionLaws.{MachineActs, pumps_output}
 use Rattle.sdb_wire.specs.Wire.{parse_message}
@@ -39,7 +40,7 @@ returns-in-Some-2-clause-answer g c = λ s line front a.
     let three = subst (λ l. part s.table s.timed.state.session l (Some c.in-Some-2.rest)) same two in
     let request = (parse_message a.text).request in
     let echo = (parse_message a.text).echo in
-    let whole = message_continues acts s.table s.timed.state.session echo 0 a.now a.before Ended Ended request (plain_listing a.rest) before.shard (λ x. front ≡ answer_lines x) says (WroteMore front old between) (wrote_more front old between) (λ x y. ⊤) (λ x y. ⊤) (Some (plain_listing c.in-Some-2.rest))
+    let whole = message_continues acts (table_policy s.table) s.timed.state.session echo 0 a.now a.before Ended Ended request (plain_listing a.rest) before.shard (λ x. front ≡ answer_lines x) says (WroteMore front old between) (wrote_more front old between) (λ x y. ⊤) (λ x y. ⊤) (Some (plain_listing c.in-Some-2.rest))
     session q a.begins three in
     let after : LineSession g.row.C.Denot = record { table = before.table; clock = before.clock; shard = q; session = c.continue_to.new.self; listing = Some c.in-Some-2.rest } in
     subst (λ l. AppendsWhere old between (λ bytes. AnswersLine HandlesLine (IsListing ahead) (line_state ahead) false s l (front ++ bytes) after)) (sym a.is_text)
@@ -64,7 +65,7 @@ returns-in_ok-pump_to-in-None-clause-answer g c = λ s line front a.
     let three = subst (λ l. part s.table s.timed.state.session l None) same two in
     let request = (parse_message a.text).request in
     let echo = (parse_message a.text).echo in
-    let whole = message_continues acts s.table s.timed.state.session echo 0 a.now a.before Ended Ended request (plain_listing a.rest) before.shard (λ x. front ≡ answer_lines x) says (WroteMore front old between) (wrote_more front old between) (λ x y. ⊤) (λ x y. ⊤) None
+    let whole = message_continues acts (table_policy s.table) s.timed.state.session echo 0 a.now a.before Ended Ended request (plain_listing a.rest) before.shard (λ x. front ≡ answer_lines x) says (WroteMore front old between) (wrote_more front old between) (λ x y. ⊤) (λ x y. ⊤) None
     session q a.begins three in
     let new = c.pump_to.new.out.items in
     let after : LineSession g.row.C.Denot = record { table = before.table; clock = before.clock; shard = c.pump_to.new.pass; session = c.pump_to.new.self; listing = None } in

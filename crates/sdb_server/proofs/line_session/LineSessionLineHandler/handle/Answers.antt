@@ -8,6 +8,7 @@ use Rattle.sdb_session.specs.Sessions.{PlainSession}
 use Rattle.sdb_session.specs.Output.{answer_line}
 use Rattle.sdb_session.specs.View.{plain_session, WroteAnswers}
 use Rattle.sdb_session.specs.Listing.{TextPart}
+use Rattle.sdb_session.specs.PolicyModel.{table_policy}
 use Rattle.sdb_session.specs.ProgressView.{progress_result}
 use Rattle.sdb_session.specs.declared.session.Progress.{Progress}
 use Rattle.sdb_session.specs.laws.SessionLaws.{MachineActs, pumps_output}
@@ -29,7 +30,7 @@ returns-in_ok-pump_to-in-Done-clause-answer g c =
     let s = plain_session c.begin_to.new.self in
     let q = c.begin_to.new.pass in
     let part : Progress → Type 0 = λ x.
-    (let r : Result Progress Ended = Ok x in TextPart (MachineActs machine_of) c.args.line.now t 0 c.now.result (plain_session before.session) before.shard (progress_result r) says s q) in
+    (let r : Result Progress Ended = Ok x in TextPart (MachineActs machine_of) c.args.line.now (table_policy t) 0 c.now.result (plain_session before.session) before.shard (progress_result r) says s q) in
     let p = pumps_output machine_of t s q _ (WroteAnswers answer_line between new) c.pump_to.new.pass c.in_ok-pump_to-in-Done.ensures.pumped in
     let mid : State = record { machine = machine_of q; session = s } in
     let last : State = record { machine = machine_of c.pump_to.new.pass; session = plain_session c.pump_to.new.self } in
@@ -50,7 +51,7 @@ returns-in-Listing-clause-answer g c =
     let s = plain_session c.begin_to.new.self in
     let q = c.begin_to.new.pass in
     let part : Progress → Type 0 = λ x.
-    (let r : Result Progress Ended = Ok x in TextPart (MachineActs machine_of) c.args.line.now t 0 c.now.result (plain_session before.session) before.shard (progress_result r) says s q) in
+    (let r : Result Progress Ended = Ok x in TextPart (MachineActs machine_of) c.args.line.now (table_policy t) 0 c.now.result (plain_session before.session) before.shard (progress_result r) says s q) in
     let begun = subst part c.in-Listing.is c.in_ok-is_request.ensures.outcome in
     let after : LineSession g.row.C.Denot = record { table = before.table; clock = c.now.new.self; shard = q; session = c.begin_to.new.self; listing = Some c.in-Listing.rest } in
     line_part ahead (line_state ahead before) c.args.line.now c.now.result before.shard refl [] old new says (wrote_first old new) after c.in-Listing.rest refl begun.1 refl c.now.ensures begun.0

@@ -6,6 +6,7 @@ use Rattle.sdb_submit.specs.Calls.{current_version}
 use Rattle.sdb_session.specs.Listing.{PlainListing}
 use Rattle.sdb_session.specs.ProjectionModel.{base_key, base_of, projection_of_key}
 use Rattle.sdb_session.specs.View.{plain_session, plain_projection_option, echo_of_message, WroteAnswers}
+use Rattle.sdb_session.specs.Handlers.{policy_of_context}
 use Rattle.sdb_session.proofs.ResponseLemmas.{answered, equal_part, newer_outcome, on_output}
 use Rattle.sdb_wire.specs.Answers.{failed}
 use Rattle.sdb_wire.specs.Wire.{fetch}
@@ -22,7 +23,7 @@ returns-then-present-from-clause-outcome g c =
     let seen : plain_projection_option c.find.result ≡ projection_of_key t k = c.find.ensures ∙ ap (λ n. projection_of n t) c.as_str.ensures.value in
     equal_part _ _ _ _ _ s _ says s _ _ _ _ _ refl c.without_listing.ensures
     (answered _ _ _ _ _ s _ says s _ _ w
-    (newer_outcome k seen c.args.from c.version-present.result (plain_key c.in_ok-base.base) c.in_ok-base.ensures c.version-present.ensures.step c.if-present-from.true (on_output w says (failed e E4 ∷ []) c.write_refusal-refused.ensures)))
+    (newer_outcome (policy_of_context g.P.Policy.plain_policy c.args.context.now) k seen c.args.from c.version-present.result (plain_key c.in_ok-base.base) c.in_ok-base.ensures c.version-present.ensures.step c.if-present-from.true (on_output w says (failed e E4 ∷ []) c.write_refusal-refused.ensures)))
 
 pub returns-clause-outcome : goal.returns-clause-outcome
 returns-clause-outcome g c =

@@ -16,7 +16,7 @@ invariant-loop-rest g l =
       pass : IsNextPass g.D.Desk.accepts g.D.Desk.pass_number l.desk l.fn.pass l.pass;
       alive : has_ended l.self ≡ false;
       request : is_ok (parse_message l.text).request ≡ true;
-      outcome : TextPart (g.D.Desk.step l.desk) l.text l.table (g.D.Desk.pass_number l.desk l.fn.pass) l.fn.now (plain_session l.fn.self) l.fn.pass rest
+      outcome : TextPart (g.D.Desk.step l.desk) l.text (g.P.Policy.plain_policy l.policy) (g.D.Desk.pass_number l.desk l.fn.pass) l.fn.now (plain_session l.fn.self) l.fn.pass rest
           (WroteAnswers g.O.AnswerSink.items (g.O.AnswerSink.contents l.fn.out) (g.O.AnswerSink.contents l.out)) (plain_session l.self) l.pass;
     }
 

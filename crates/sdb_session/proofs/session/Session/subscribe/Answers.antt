@@ -4,6 +4,7 @@ use Rattle.sdb_projection.specs.Table.{projection_of}
 use Rattle.sdb_session.specs.ProjectionModel.{projection_of_key}
 use Rattle.sdb_session.specs.Responses.{subscribe_answers}
 use Rattle.sdb_session.specs.View.{plain_opened, plain_session, plain_projection_option, echo_of_message, WroteAnswers}
+use Rattle.sdb_session.specs.Handlers.{policy_of_context}
 use Rattle.sdb_session.proofs.ResponseLemmas.{answered, equal_part, on_output, full_outcome, opened_outcome, not_opened_outcome}
 use Rattle.sdb_wire.specs.Answers.{failed}
 use Rattle.sdb_session.proofs.session.Session.subscribe.Goals as goal
@@ -21,7 +22,7 @@ returns-then-is_subscription_full-clause-outcome g c =
     let seen : o ≡ projection_of_key t k = c.find-projection.ensures ∙ ap (λ n. projection_of n t) c.as_str.ensures.value in
     equal_part _ _ _ _ _ s _ says s _ _ _ _ _ refl c.without_listing.ensures
     (answered _ _ _ _ _ s _ says s _ _ w
-    (full_outcome k seen c.args.version (plain_key c.in_ok-base.base) code (sym c.is_subscription_full.ensures ∙ c.if-is_subscription_full.true) c.in_ok-base.ensures c.limit_code-code.ensures.refuse_calls (on_output w says (failed e code ∷ []) c.write_refusal-refused.ensures)))
+    (full_outcome (policy_of_context g.P.Policy.plain_policy c.args.context.now) k seen c.args.version (plain_key c.in_ok-base.base) code (sym c.is_subscription_full.ensures ∙ c.if-is_subscription_full.true) c.in_ok-base.ensures c.limit_code-code.ensures.refuse_calls (on_output w says (failed e code ∷ []) c.write_refusal-refused.ensures)))
 
 pub returns-in-Err-clause-outcome : goal.returns-in-Err-clause-outcome
 returns-in-Err-clause-outcome g c =
@@ -38,7 +39,7 @@ returns-in-Err-clause-outcome g c =
     let full = sym c.is_subscription_full.ensures ∙ c.if-is_subscription_full.false in
     equal_part _ _ _ _ _ s _ says new _ _ _ _ _ refl c.without_listing-in-Err.ensures
     (answered _ _ _ _ _ s _ says new _ _ w
-    (not_opened_outcome k seen c.args.version (plain_key c.in_ok-base.base) full c.in_ok-base.ensures code c.in-Err.ensures.session c.in-Err.ensures.opens (on_output w says (failed e code ∷ []) c.write_refusal-refused-in-Err.ensures)))
+    (not_opened_outcome (policy_of_context g.P.Policy.plain_policy c.args.context.now) k seen c.args.version (plain_key c.in_ok-base.base) full c.in_ok-base.ensures code c.in-Err.ensures.session c.in-Err.ensures.opens (on_output w says (failed e code ∷ []) c.write_refusal-refused-in-Err.ensures)))
 
 pub returns-in-None-clause-outcome : goal.returns-in-None-clause-outcome
 returns-in-None-clause-outcome g c =
@@ -55,5 +56,5 @@ returns-in-None-clause-outcome g c =
     let full = sym c.is_subscription_full.ensures ∙ c.if-is_subscription_full.false in
     equal_part _ _ _ _ _ s _ says new _ _ _ _ _ refl c.without_listing-in-None.ensures
     (answered _ _ _ _ _ s _ says new _ _ w
-    (opened_outcome k seen c.args.version (plain_key c.in_ok-base.base) full c.in_ok-base.ensures opened mid c.open_queue.new.pass c.in-None.is c.in-Ok.ensures.opens c.in-Ok.ensures.session
+    (opened_outcome (policy_of_context g.P.Policy.plain_policy c.args.context.now) k seen c.args.version (plain_key c.in_ok-base.base) full c.in_ok-base.ensures opened mid c.open_queue.new.pass c.in-None.is c.in-Ok.ensures.opens c.in-Ok.ensures.session
     c.subscribe_document.ensures.close_calls c.subscribe_document.ensures.session (on_output w says (subscribe_answers o k None (record { opened = opened; first = [] })) c.subscribe_document.ensures.output)))
