@@ -19,6 +19,8 @@ use Rattle.sdb_desk.specs.laws.MapLaws.{value_of_updated}
 use Rattle.std.specs.Result.{result_ok}
 use Rattle.sdb_desk.specs.Machine.{Machine, PlainAttempt, PlainOutcome, decided, moved as moved_on, QueuesByKey, with_queues, close_queue, queue_start, subscribe_opened, subscribe_step, subscribe_from_start, DecidesOrOutOfMemory, CommitsOrOutOfMemory, SubscribesOrOutOfMemory, TakesOrOutOfMemory, IsUnchanged, PlainSubscribeResult}
 use Rattle.sdb_submit.specs.Calls.{PlainCall, look, commit, commit_now, current_version, fetch, ops_from, ops_between, snapshot, snapshot_at_time, forget, subscribe, take_next, unsubscribe, CallAnswer, MachineStep}
+use Rattle.sdb_desk.specs.ShardState.{ShardState, machine_of_state}
+use Rattle.sdb_submit.specs.laws.ShardLaws.{IsCallOfState}
 use Rattle.sdb_backend.specs.HistoryOrder.{IsExtension, QueueContinues, QueuesContinue, Extends, stored_by, queue_owned_by, share_of, AddsToShare, Share}
 use Rattle.sdb_backend.specs.PassRuns.{IsCallUnder}
 use Rattle.sdb_backend.specs.HistoryOrderLaws.{is_extension_refl, queue_continues_refl, queues_continue_refl}
@@ -275,6 +277,10 @@ acts_grown n m k (unsubscribe i) a new by h =
     let here : new.queues k ≡ close_queue n i (m.queues k) = value_of_updated m.queues new.queues k (close_queue n i (m.queues k)) h.0 in
     queues_grown n m new k (close_queue n i (m.queues k))
     (subst (λ x. QueuesMove n x (m.queues k)) here (moves_closed n i (m.queues k) (new.queues k) h.1 here)) h.0 h.2
+
+pub call_grown : (n : ℕ) (old : ShardState) (k : PlainKey) (c : PlainCall) (a : CallAnswer c) (new : ShardState) → IsCallUnder n c
+    → IsCallOfState n old k c a new → MachineGrows n (machine_of_state old) (machine_of_state new)
+call_grown n old k c a new by h = acts_grown n (machine_of_state old) k c a (machine_of_state new) by h.step
 
 -- ---- the effect of a decision on its number's share
 

@@ -65,7 +65,7 @@ nothing_at_zero : (log : List PlainEntry) (d : Value) → snap (take 0 log) ≡ 
 nothing_at_zero [] d e = cc
 nothing_at_zero (x ∷ log) d e = cc
 
-offers_none : (o : Option Value) (v : ℕ) (kept new : List Snapshot) → new ≡ kept → CacheAfterOffer v o kept new
+pub offers_none : (o : Option Value) (v : ℕ) (kept new : List Snapshot) → new ≡ kept → CacheAfterOffer v o kept new
 offers_none None v kept new e = e
 offers_none (Some d) v kept new e = inr e
 

@@ -29,8 +29,8 @@ plain_keys (e ∷ es) = plain_key e.0 ∷ plain_keys es
 abbrev KeysAscend : List (Key × PlainSlot) → Type 0
 KeysAscend es = IsStrictlySortedBy (λ a b. compare_keys (plain_key a) (plain_key b)) (keys_of es)
 
-abbrev queues_at : List (Key × PlainSlot) → QueuesByKey
-queues_at es k = without_rings (value_at_key empty_slot es k).queues
+abbrev queues_of_entries : List (Key × PlainSlot) → QueuesByKey
+queues_of_entries es k = without_rings (value_at_key empty_slot es k).queues
 
 all_below_key : (a : PlainKey) (es : List (Key × PlainSlot)) → AllByRecursion (λ y. compare_keys a (plain_key y) ≡ Less) (keys_of es) → AllByRecursion (λ y. compare_keys a y ≡ Less) (plain_keys es)
 all_below_key a [] all = tt
@@ -50,28 +50,28 @@ or_false_elim true b e = cc
 or_false_elim false b e = (refl, e)
 
 none_or : (same : Bool) (e : Key × PlainSlot) (es : List (Key × PlainSlot)) (k : PlainKey) → keys_equal k (plain_key e.0) ≡ same → list_any (keys_equal k) (plain_keys (e ∷ es)) ≡ false
-    → (list_any (keys_equal k) (plain_keys es) ≡ false → (queues_at es k).queues ≡ []) → (queues_at (e ∷ es) k).queues ≡ []
+    → (list_any (keys_equal k) (plain_keys es) ≡ false → (queues_of_entries es k).queues ≡ []) → (queues_of_entries (e ∷ es) k).queues ≡ []
 none_or true e es k is none rest = let x : true ≡ false = sym is ∙ (or_false_elim (keys_equal k (plain_key e.0)) (list_any (keys_equal k) (plain_keys es)) none).0 in cc
 none_or false e es k is none rest = rw is (rest ((or_false_elim (keys_equal k (plain_key e.0)) (list_any (keys_equal k) (plain_keys es)) none).1))
 
 -- any other key has no queue
-pub no_queue_of_other_key : (es : List (Key × PlainSlot)) (k : PlainKey) → is_member keys_equal (plain_keys es) k ≡ false → (queues_at es k).queues ≡ []
+pub no_queue_of_other_key : (es : List (Key × PlainSlot)) (k : PlainKey) → is_member keys_equal (plain_keys es) k ≡ false → (queues_of_entries es k).queues ≡ []
 no_queue_of_other_key [] k none = refl
 no_queue_of_other_key (e ∷ es) k none = none_or (keys_equal k (plain_key e.0)) e es k refl none (no_queue_of_other_key es k)
 
 -- an entry before these keys doesn't change their count
-open_of_skip : (e : Key × PlainSlot) (es : List (Key × PlainSlot)) (ks : List PlainKey) → AllByRecursion (λ y. compare_keys (plain_key e.0) y ≡ Less) ks → open_count (queues_at (e ∷ es)) ks ≡ open_count (queues_at es) ks
+open_of_skip : (e : Key × PlainSlot) (es : List (Key × PlainSlot)) (ks : List PlainKey) → AllByRecursion (λ y. compare_keys (plain_key e.0) y ≡ Less) ks → open_count (queues_of_entries (e ∷ es)) ks ≡ open_count (queues_of_entries es) ks
 open_of_skip e es [] all = refl
 open_of_skip e es (k ∷ ks) all =
     let apart : keys_equal k (plain_key e.0) ≡ false = keys_equal_comm k (plain_key e.0) ∙ ap is_eq all.0 in
     rw (apart, open_of_skip e es ks all.1) refl
 
 -- the count over slots is the count over their keys
-pub open_of_total : (es : List (Key × PlainSlot)) → KeysAscend es → open_count (queues_at es) (plain_keys es) ≡ open_total (values_of es)
+pub open_of_total : (es : List (Key × PlainSlot)) → KeysAscend es → open_count (queues_of_entries es) (plain_keys es) ≡ open_total (values_of es)
 unfolding IsStrictlySortedBy
 open_of_total [] ordered = refl
 open_of_total (e ∷ es) ordered =
-    let rest : open_count (queues_at (e ∷ es)) (plain_keys es) ≡ open_total (values_of es) =
+    let rest : open_count (queues_of_entries (e ∷ es)) (plain_keys es) ≡ open_total (values_of es) =
     open_of_skip e es (plain_keys es) (all_below_key (plain_key e.0) es ordered.0) ∙ open_of_total es ordered.1 in
     rw (keys_equal_refl (plain_key e.0), rest) refl
 

@@ -6,7 +6,10 @@ use Rattle.sdb_oplog.specs.declared.codes.Code.{Code}
 use Rattle.sdb_oplog.specs.declared.codes.Code.TheVariants.{E4, E10, E11}
 use Rattle.sdb_oplog.specs.Refusal.{IsRefusalOrOutOfMemory}
 use Rattle.sdb_oplog.specs.laws.LogLaws.{out_of_memory_or_refusal}
-use Rattle.sdb_subscribe.specs.Queue.{PlainQueues, open_queue}
+use Rattle.sdb_subscribe.specs.Queue.{PlainQueue, PlainQueues, open_queue}
+use Rattle.sdb_subscribe.specs.Ring.{RingedQueues, queues_without_rings, without_rings}
+use Rattle.sdb_subscribe.proofs.QueueMapLemmas.{added_bare}
+use Rattle.sdb_desk.specs.StateChanges.{open_ringed_queue}
 use Rattle.sdb_value.specs.Value.{Value}
 use Rattle.sdb_desk.specs.Machine.{PlainFetchResult, queue_start, subscribe_opened, subscribe_step, subscribe_from_start, fetch_result, read_has_document, ReadOrOutOfMemory, SubscribesOrOutOfMemory}
 
@@ -65,3 +68,12 @@ subscribe_done log by v s id n q new d is at made (inr h) =
       (λ i. Ok (record { id = at i; start = s; version = (shown i).version; snapshot = (shown i).snapshot })) ∙ sym (ap (λ x. x.answer) due),
       sym (ap (λ x. x.queues) due),
     )
+
+-- ---- the queue with its ring buffer
+
+pub open_of_ringed : (by start : ℕ) (q : RingedQueues) → nat_eq q.next 18446744073709551615 ≡ false
+    → open_queue by start (without_rings q) ≡ Ok (without_rings (open_ringed_queue by start q))
+open_of_ringed by start q free =
+    let w : PlainQueue = record { start = start; taken = 0; by = by } in
+    ap (λ b. cond b (Err E11) (Ok (record { next = q.next + 1; queues = queues_without_rings q.queues ++ (q.next, w) ∷ [] }))) free
+    ∙ ap (λ l. Ok (record { next = q.next + 1; queues = l })) (sym (added_bare q.next (record { queue = w; ring = [] }) q.queues))

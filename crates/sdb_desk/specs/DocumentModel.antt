@@ -1,8 +1,8 @@
 -- The state of a document.
-use Rattle.std.specs.Prelude.{◌≡◌, ◌≢◌, ℕ, List, [], Option, Some, None}
+use Rattle.std.specs.Prelude.{◌≡◌, ◌≢◌, ℕ, List, [], length, Option, Some, None}
 use Rattle.sdb_value.specs.Value.{Value}
-use Rattle.sdb_oplog.specs.Plain.{PlainEntry}
-use Rattle.sdb_oplog.specs.Decide.{IsMade}
+use Rattle.sdb_oplog.specs.Plain.{PlainEntry, PlainSubmission}
+use Rattle.sdb_oplog.specs.Decide.{decide, stored, missed_entries, IsMade}
 use Rattle.sdb_snapcache.specs.CacheModel.{Snapshot}
 use Rattle.sdb_snapcache.specs.SnapInvariant.{AreSnapsOf}
 
@@ -14,6 +14,11 @@ pub record PlainDocument : Type 0 where
 -- the document without entries
 abbrev pub empty_document : PlainDocument
 empty_document = record { log = []; cache = [] }
+
+-- a submission is stored
+pub record DocumentAfterStore (s : PlainSubmission) (now : ℕ) (old new : PlainDocument) : Type 0 where
+  pub reply : (decide old.log s now).reply ≡ stored (length old.log) (missed_entries old.log s)
+  pub document : new ≡ record { log = (decide old.log s now).log; cache = old.cache }
 
 -- the log is made and isn't empty, and the cache has snapshots of it
 pub record IsDocument (log : List PlainEntry) (kept : List Snapshot) : Type 0 where

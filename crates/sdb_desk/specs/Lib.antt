@@ -6,8 +6,9 @@ pub mod MapModel
 pub mod OpenQueues
 pub mod Reads
 pub mod ReplyView
-pub mod Rings
+pub mod ShardState
 pub mod ShardView
+pub mod StateChanges
 pub mod StoredKeys
 pub mod SlotModel
 pub mod View

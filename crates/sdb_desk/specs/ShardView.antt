@@ -1,13 +1,15 @@
--- The logs, caches, queues and ring buffers of a shard.
+-- The views of a shard: its state, and the parts of it.
 use Rattle.std.specs.Prelude.{ℕ, List, Option}
-use Rattle.sdb_oplog.specs.Keys.{PlainKey, Logs, with_value_at_key}
+use Rattle.sdb_oplog.specs.Keys.{PlainKey, Logs, plain_key}
 use Rattle.sdb_oplog.specs.Plain.{PlainEntry}
+use Rattle.sdb_oplog.specs.declared.keys.Key.{Key}
 use Rattle.sdb_snapcache.specs.CacheModel.{Snapshot}
-use Rattle.sdb_snapcache.specs.SnapInvariant.{AreSnapsOf}
-use Rattle.sdb_subscribe.specs.Ring.{RingedQueue, without_rings, ring_at}
+use Rattle.sdb_subscribe.specs.Queue.{PlainQueues}
+use Rattle.sdb_subscribe.specs.Ring.{RingedQueue, ring_at}
 use Rattle.sdb_desk.specs.DocumentModel.{PlainDocument}
 use Rattle.sdb_desk.specs.MapModel.{value_at_key}
 use Rattle.sdb_desk.specs.Machine.{QueuesByKey, Machine}
+use Rattle.sdb_desk.specs.ShardState.{ShardState, CachesByKey, plain_queues, machine_of_state, state_of_slots}
 use Rattle.sdb_desk.specs.SlotModel.{PlainSlot, empty_slot}
 use Rattle.sdb_desk.specs.declared.shard.Shard.{Shard}
 
@@ -15,44 +17,41 @@ use Rattle.sdb_desk.specs.declared.shard.Shard.{Shard}
 abbrev pub slots_of : Shard → PlainKey → PlainSlot
 slots_of m = value_at_key empty_slot m.slots.entries
 
+abbrev pub state_of : Shard → ShardState
+state_of m = state_of_slots (slots_of m)
+
 -- the document of each key, empty by default
 abbrev pub documents_of : Shard → PlainKey → PlainDocument
 documents_of m k = (slots_of m k).document
 
 abbrev pub logs_of : Shard → Logs
-logs_of m k = (documents_of m k).log
+logs_of m = (state_of m).logs
 
--- the cached snapshots of each document, most recently used first
-abbrev pub CachesByKey : Type 0
-CachesByKey = PlainKey → List Snapshot
+-- the log of this key
+abbrev pub log_at : Shard → Key → List PlainEntry
+log_at m key = logs_of m (plain_key key)
 
 abbrev pub caches_of : Shard → CachesByKey
-caches_of m k = (documents_of m k).cache
+caches_of m = (state_of m).caches
 
-abbrev pub with_cache : CachesByKey → PlainKey → List Snapshot → CachesByKey
-with_cache = with_value_at_key
-
--- each cached snapshot is the document at its version of its key's log
-abbrev pub AreCachesOf : Logs → CachesByKey → Type 0
-AreCachesOf logs caches = (k : PlainKey) → AreSnapsOf (logs k) (caches k)
-
--- the queues of each key, without their ring buffers
 abbrev pub queues_of : Shard → QueuesByKey
-queues_of m k = without_rings (slots_of m k).queues
+queues_of m = plain_queues (state_of m)
 
--- the open queues of each key with their ring buffers, by number
-abbrev pub RingedQueuesByKey : Type 0
-RingedQueuesByKey = PlainKey → List (ℕ × RingedQueue)
+-- the cached snapshots of this key
+abbrev pub cache_at : Shard → Key → List Snapshot
+cache_at m key = caches_of m (plain_key key)
 
-abbrev pub ringed_queues_of : Shard → RingedQueuesByKey
-ringed_queues_of m k = (slots_of m k).queues.queues
+-- the queues of this key
+abbrev pub queues_at : Shard → Key → PlainQueues
+queues_at m key = queues_of m (plain_key key)
 
-abbrev pub with_ringed_queues : RingedQueuesByKey → PlainKey → List (ℕ × RingedQueue) → RingedQueuesByKey
-with_ringed_queues = with_value_at_key
+-- the open queues of this key with their ring buffers, by number
+abbrev pub open_queues_at : Shard → Key → List (ℕ × RingedQueue)
+open_queues_at m key = ((state_of m).queues (plain_key key)).queues
 
--- the ring buffers of each key, by queue number
-abbrev pub rings_of : Shard → PlainKey → ℕ → Option (List PlainEntry)
-rings_of m k n = ring_at n (ringed_queues_of m k)
+-- the ring buffer of this key's queue of this number
+abbrev pub ring_of : Shard → Key → ℕ → Option (List PlainEntry)
+ring_of m key n = ring_at n (open_queues_at m key)
 
 abbrev pub machine_of : Shard → Machine
-machine_of s = record { logs = logs_of s; queues = queues_of s }
+machine_of m = machine_of_state (state_of m)

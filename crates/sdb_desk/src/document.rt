@@ -2,7 +2,7 @@
 ghost use Rattle.std.specs.Prelude.{◌≡◌, ◌≢◌, ◌<◌, ◌≤◌, [], true, length, take, OnOk, OnErr, IfOk, IfErr, IfSome, is_some, Some, option_map};
 ghost use Rattle.sdb_value.specs.Uniqueness.{is_frozen};
 ghost use Rattle.sdb_value.specs.View.{value_of};
-ghost use Rattle.sdb_oplog.specs.Decide.{decide, stored, missed_entries, IsMade};
+ghost use Rattle.sdb_oplog.specs.Decide.{IsMade};
 ghost use Rattle.sdb_oplog.specs.DecidedLog.{WillStore};
 ghost use Rattle.sdb_oplog.specs.Snap.{document_of, snap};
 ghost use Rattle.sdb_oplog.specs.declared.codes.Code.TheVariants.{E10};
@@ -10,7 +10,7 @@ ghost use Rattle.sdb_desk.specs.Machine.{operations_between, look_at, look_alloc
 ghost use Rattle.sdb_desk.specs.View.{plain_replay_base, plain_look};
 ghost use Rattle.sdb_snapcache.specs.CacheModel.{nearest, promote_nearest};
 ghost use Rattle.sdb_snapcache.specs.View.{plain_snapshot};
-ghost use Rattle.sdb_desk.specs.DocumentModel.{IsReplayStart};
+ghost use Rattle.sdb_desk.specs.DocumentModel.{DocumentAfterStore, empty_document, IsReplayStart};
 ghost use Rattle.sdb_snapcache.specs.SnapInvariant.{AreSnapsOf};
 ghost use Rattle.sdb_desk.specs.Reads.{CacheAfterRead, CacheAfterOffer, IsReplayBase, IsCachedReplayBase, CacheAfterUse};
 
@@ -80,9 +80,7 @@ impl Document {
         rebased: RebaseResult,
     ) -> Result<Document, AllocError>
         requires { WillStore [] submission rebased.content (option_map value_of rebased.document) }
-        ensures log { IfOk result (λ d. d.log ≡ (decide [] submission now).log) }
-        ensures reply { OnOk result ((decide [] submission now).reply ≡ stored 0 (missed_entries [] submission)) }
-        ensures cache { IfOk result (λ d. d.cache ≡ []) }
+        ensures { IfOk result (DocumentAfterStore submission now empty_document) }
     {
         let mut decided = DecidedLog::new(alloc);
         decided.append(alloc, submission, now, rebased)?;
@@ -132,12 +130,10 @@ impl Document {
         now: Moment,
         rebased: RebaseResult,
     ) -> Result<(), AllocError>
-        requires { WillStore self.old.log submission rebased.content (option_map value_of rebased.document) }
-        ensures log { OnOk result (self.new.log ≡ (decide self.old.log submission now).log) }
-        ensures reply { OnOk result ((decide self.old.log submission now).reply ≡
-            stored (length self.old.log) (missed_entries self.old.log submission)) }
-        ensures unchanged_on_err { OnErr result (self.new.log ≡ self.old.log) }
-        ensures cache_unchanged { self.new.cache ≡ self.old.cache }
+        requires { WillStore self.old.log submission rebased.content
+            (option_map value_of rebased.document) }
+        ensures ok { OnOk result (DocumentAfterStore submission now self.old self.new) }
+        ensures err { OnErr result (self.new ≡ self.old) }
     {
         self.decided.append(alloc, submission, now, rebased)
     }
@@ -146,7 +142,8 @@ impl Document {
     // cached unless an allocation fails.
     pub(crate) fn snapshot_at(&mut self, alloc: Global, version: u64) -> Result<Option<Json>, Code>
         requires { version ≤ length self.old.log }
-        ensures snap { IfOk result (λ d. snap (take version self.old.log) ≡ Some (option_map value_of d)) }
+        ensures snap { IfOk result
+            (λ d. snap (take version self.old.log) ≡ Some (option_map value_of d)) }
         ensures err { IfErr result (λ code. code ≡ E10) }
         ensures memory { OnErr result (0 < version) }
         ensures log { self.new.log ≡ self.old.log }
@@ -171,10 +168,12 @@ impl Document {
         version: u64,
     ) -> Result<ReplayBase, AllocError>
         requires { version ≤ length self.old.log }
-        ensures replay_base { IfOk result (λ l. IsReplayBase self.old.log version (plain_replay_base l)) }
-        ensures cached_base { IfOk result (λ l. IsCachedReplayBase self.old.log self.old.cache version
-            (plain_replay_base l)) }
-        ensures current_version { IfOk result (λ l. version ≡ length self.old.log → l.entries.items ≡ []) }
+        ensures replay_base { IfOk result
+            (λ l. IsReplayBase self.old.log version (plain_replay_base l)) }
+        ensures cached_base { IfOk result
+            (λ l. IsCachedReplayBase self.old.log self.old.cache version (plain_replay_base l)) }
+        ensures current_version { IfOk result
+            (λ l. version ≡ length self.old.log → l.entries.items ≡ []) }
         ensures memory { OnErr result (0 < version) }
         ensures log { self.new.log ≡ self.old.log }
         ensures cache { CacheAfterUse self.old.log version self.old.cache self.new.cache }
@@ -200,7 +199,8 @@ impl Document {
     fn nearest(&mut self, alloc: Global, version: u64) -> Result<(u64, Option<Json>), AllocError>
         requires { version ≤ length self.old.log }
         ensures bound { IfOk result (λ r. r.0 ≤ version) }
-        ensures snap { IfOk result (λ r. snap (take r.0 self.old.log) ≡ Some (option_map value_of r.1)) }
+        ensures snap { IfOk result
+            (λ r. snap (take r.0 self.old.log) ≡ Some (option_map value_of r.1)) }
         ensures replay_start { IfOk result (λ r. IsReplayStart (nearest version self.old.cache) r.0
             (option_map value_of r.1)) }
         ensures memory { OnErr result (0 < version) }
@@ -214,10 +214,11 @@ impl Document {
     // Caches a clone of the snapshot, unless it is absent or an allocation fails.
     pub(crate) fn offer(&mut self, alloc: Global, version: u64, snapshot: Option<&Json>)
         requires bound { version ≤ length self.old.log }
-        requires snapshot { document_of (take version self.old.log) ≡ option_map (λ v. value_of v.now) snapshot }
+        requires snapshot { document_of (take version self.old.log) ≡
+            option_map (λ v. value_of v.now) snapshot }
         ensures log { self.new.log ≡ self.old.log }
-        ensures cache { CacheAfterOffer version (option_map (λ v. value_of v.now) snapshot.entry) self.old.cache
-            self.new.cache }
+        ensures cache { CacheAfterOffer version (option_map (λ v. value_of v.now) snapshot.entry)
+            self.old.cache self.new.cache }
         ensures is_made { IsMade self.old.log }
     {
         if let Ok(Some(copy)) = clone_document(alloc, snapshot) {
@@ -227,8 +228,7 @@ impl Document {
 
     // Empties the snapshot cache.
     pub(crate) fn forget(&mut self)
-        ensures log { self.new.log ≡ self.old.log }
-        ensures cache { self.new.cache ≡ [] }
+        ensures { self.new ≡ record { log = self.old.log; cache = [] } }
     {
         self.cache.forget();
     }
@@ -252,7 +252,8 @@ fn clone_nearest(
 
 // Returns the version and the document from which a replay starts.
 fn replay_start(found: Option<(u64, Json)>) -> (u64, Option<Json>)
-    ensures { IsReplayStart (option_map plain_snapshot found) result.0 (option_map value_of result.1) }
+    ensures { IsReplayStart (option_map plain_snapshot found) result.0
+        (option_map value_of result.1) }
 {
     match found {
         Some((at, value)) => (at, Some(value)),

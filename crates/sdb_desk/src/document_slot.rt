@@ -1,20 +1,20 @@
 //! The slot of a key: a document, queues, or both.
-ghost use Rattle.std.specs.Prelude.{◌≡◌, ◌≢◌, ◌≤◌, ◌<◌, ◌++◌, ◌∷◌, List, [], length, take, is_some, true, IfOk, IfErr, IfSome, OnOk, OnErr, Ok, Err, Some, None, option_map, unwrap_or};
+ghost use Rattle.std.specs.Prelude.{◌≡◌, ◌≤◌, ◌<◌, ◌++◌, ◌∷◌, List, [], length, take, is_some, true, IfOk, IfErr, IfSome, OnOk, OnErr, Ok, Err, Some, None, option_map, unwrap_or};
 ghost use Rattle.sdb_value.specs.Uniqueness.{is_frozen};
 ghost use Rattle.sdb_value.specs.View.{value_of};
-ghost use Rattle.sdb_oplog.specs.Decide.{decide, stored, missed_entries, IsMade};
+ghost use Rattle.sdb_oplog.specs.Decide.{IsMade};
 ghost use Rattle.sdb_oplog.specs.Plain.{PlainEntry};
 ghost use Rattle.sdb_oplog.specs.Refusal.{IsRefusalOrOutOfMemory};
 ghost use Rattle.sdb_oplog.specs.Snap.{document_of, snap};
 ghost use Rattle.sdb_oplog.specs.declared.codes.Code.TheVariants.{E10};
-ghost use Rattle.sdb_subscribe.specs.Queue.{open_queue, queue_at, take_result_by, queues_after_take_by, remove_queue_by, is_open_by};
+ghost use Rattle.sdb_subscribe.specs.Queue.{open_queue, queue_at, take_result_by, is_open_by};
 ghost use Rattle.sdb_subscribe.specs.Ring.{without_rings, AreRingsOfLog, ArePushed, ringed_queues_after_take_by, remove_ringed_queue_by};
-ghost use Rattle.sdb_desk.specs.DocumentModel.{empty_document};
+ghost use Rattle.sdb_desk.specs.DocumentModel.{DocumentAfterStore, empty_document};
 ghost use Rattle.sdb_oplog.specs.DecidedLog.{WillStore};
 ghost use Rattle.sdb_desk.specs.Machine.{is_nonempty};
 ghost use Rattle.sdb_desk.specs.Reads.{CacheAfterRead, CacheAfterOffer, IsReplayBase, IsCachedReplayBase, CacheAfterUse};
-ghost use Rattle.sdb_desk.specs.Rings.{RingsAfterAppend, append_ringed_queue};
-ghost use Rattle.sdb_desk.specs.SlotModel.{empty_slot, document_or_empty};
+ghost use Rattle.sdb_desk.specs.SlotModel.{empty_slot, slot_with_cache, slot_with_queues, slot_with_open_queues, document_or_empty};
+ghost use Rattle.sdb_desk.specs.StateChanges.{SlotAfterStore, OnlySlotCacheChanges, open_ringed_queue};
 ghost use Rattle.sdb_desk.specs.View.{plain_replay_base};
 
 use crate::document::Document;
@@ -90,15 +90,10 @@ impl DocumentSlot {
         now: Moment,
         rebased: RebaseResult,
     ) -> Result<(), AllocError>
-        requires { WillStore self.old.document.log submission rebased.content (option_map value_of rebased.document) }
-        ensures log { OnOk result (self.new.document.log ≡ (decide self.old.document.log submission now).log) }
-        ensures reply { OnOk result ((decide self.old.document.log submission now).reply ≡
-            stored (length self.old.document.log) (missed_entries self.old.document.log submission)) }
-        ensures unchanged_on_err { OnErr result (self.new.document.log ≡ self.old.document.log) }
-        ensures cache_unchanged { self.new.document.cache ≡ self.old.document.cache }
-        ensures queues_unchanged { without_rings self.new.queues ≡ without_rings self.old.queues }
-        ensures rings { RingsAfterAppend self.old.document.log self.new.document.log
-            self.old.queues.queues self.new.queues.queues }
+        requires { WillStore self.old.document.log submission rebased.content
+            (option_map value_of rebased.document) }
+        ensures ok { OnOk result (SlotAfterStore submission now self.old self.new) }
+        ensures err { OnErr result (self.new ≡ self.old) }
     {
         let version = version_of(&self.document);
         append_to_document(&mut self.document, alloc, submission, now, rebased)?;
@@ -108,7 +103,8 @@ impl DocumentSlot {
 
     // Returns a clone of the current value, after freezing it.
     pub(crate) fn freeze(&mut self, alloc: Global) -> Result<Option<Json>, AllocError>
-        ensures copy { IfOk result (λ d. option_map value_of d ≡ document_of self.old.document.log) }
+        ensures copy { IfOk result
+            (λ d. option_map value_of d ≡ document_of self.old.document.log) }
         ensures frozen { IfOk result (λ d. IfSome d (λ v. is_frozen v ≡ true)) }
         ensures memory { OnErr result (is_some (document_of self.old.document.log) ≡ true) }
         ensures unchanged { self.new ≡ self.old }
@@ -122,12 +118,12 @@ impl DocumentSlot {
     // Returns the document at a version, replayed from the nearest cached snapshot.
     pub(crate) fn snapshot_at(&mut self, alloc: Global, version: u64) -> Result<Option<Json>, Code>
         requires { version ≤ length self.old.document.log }
-        ensures snap { IfOk result (λ d. snap (take version self.old.document.log) ≡ Some (option_map value_of d)) }
+        ensures snap { IfOk result
+            (λ d. snap (take version self.old.document.log) ≡ Some (option_map value_of d)) }
         ensures err { IfErr result (λ code. code ≡ E10) }
         ensures memory { OnErr result (0 < version) }
-        ensures log { self.new.document.log ≡ self.old.document.log }
-        ensures cache { CacheAfterRead self.old.document.log version self.old.document.cache self.new.document.cache }
-        ensures queues_unchanged { self.new.queues ≡ self.old.queues }
+        ensures cache { OnlySlotCacheChanges (CacheAfterRead self.old.document.log version)
+            self.old self.new }
     {
         match &mut self.document {
             Some(document) => document.snapshot_at(alloc, version),
@@ -142,14 +138,16 @@ impl DocumentSlot {
         version: u64,
     ) -> Result<ReplayBase, AllocError>
         requires { version ≤ length self.old.document.log }
-        ensures replay_base { IfOk result (λ l. IsReplayBase self.old.document.log version (plain_replay_base l)) }
+        ensures replay_base { IfOk result
+            (λ l. IsReplayBase self.old.document.log version (plain_replay_base l)) }
         ensures cached_base { IfOk result
-            (λ l. IsCachedReplayBase self.old.document.log self.old.document.cache version (plain_replay_base l)) }
-        ensures current_version { IfOk result (λ l. version ≡ length self.old.document.log → l.entries.items ≡ []) }
+            (λ l. IsCachedReplayBase self.old.document.log self.old.document.cache version
+            (plain_replay_base l)) }
+        ensures current_version { IfOk result
+            (λ l. version ≡ length self.old.document.log → l.entries.items ≡ []) }
         ensures memory { OnErr result (0 < version) }
-        ensures log { self.new.document.log ≡ self.old.document.log }
-        ensures cache { CacheAfterUse self.old.document.log version self.old.document.cache self.new.document.cache }
-        ensures queues_unchanged { self.new.queues ≡ self.old.queues }
+        ensures cache { OnlySlotCacheChanges (CacheAfterUse self.old.document.log version)
+            self.old self.new }
     {
         match &mut self.document {
             Some(document) => document.replay_base(alloc, version),
@@ -162,11 +160,10 @@ impl DocumentSlot {
         requires bound { version ≤ length self.old.document.log }
         requires snapshot { document_of (take version self.old.document.log)
             ≡ option_map (λ v. value_of v.now) snapshot }
-        ensures log { self.new.document.log ≡ self.old.document.log }
-        ensures cache { CacheAfterOffer version (option_map (λ v. value_of v.now) snapshot.entry)
-            self.old.document.cache self.new.document.cache }
         ensures is_made { IsMade self.old.document.log }
-        ensures queues_unchanged { self.new.queues ≡ self.old.queues }
+        ensures cache { OnlySlotCacheChanges
+            (CacheAfterOffer version (option_map (λ v. value_of v.now) snapshot.entry))
+            self.old self.new }
     {
         if let Some(document) = &mut self.document {
             document.offer(alloc, version, snapshot);
@@ -175,9 +172,7 @@ impl DocumentSlot {
 
     // Empties the snapshot cache.
     pub(crate) fn forget(&mut self)
-        ensures log { self.new.document.log ≡ self.old.document.log }
-        ensures cache { self.new.document.cache ≡ [] }
-        ensures queues_unchanged { self.new.queues ≡ self.old.queues }
+        ensures { self.new ≡ slot_with_cache self.old [] }
     {
         if let Some(document) = &mut self.document {
             document.forget();
@@ -187,17 +182,14 @@ impl DocumentSlot {
     // Opens a queue for an owner number.
     pub(crate) fn open(&mut self, by: u64, start: u64) -> Result<SubId, Code>
         ensures id { IfOk result (λ id. id ≡ (without_rings self.old.queues).next) }
-        ensures ok { OnOk result (open_queue by start (without_rings self.old.queues)
-            ≡ Ok (without_rings self.new.queues)) }
+        ensures ok { OnOk result (self.new ≡
+            slot_with_queues self.old (open_ringed_queue by start self.old.queues)) }
         ensures open { IfOk result
             (λ id. queue_at id (without_rings self.new.queues).queues ≡
             Some (record { start = start; taken = 0; by = by })) }
         ensures err { IfErr result (λ code. IsRefusalOrOutOfMemory (open_queue by start
             (without_rings self.old.queues)) code) }
         ensures unchanged_on_err { OnErr result (self.new ≡ self.old) }
-        ensures document { self.new.document ≡ self.old.document }
-        ensures rings { IfOk result
-            (λ id. self.new.queues.queues ≡ append_ringed_queue id by start self.old.queues.queues) }
     {
         self.queues.open(by, start)
     }
@@ -212,16 +204,13 @@ impl DocumentSlot {
     ) -> Result<Option<Vec<Entry>>, AllocError>
         ensures entries { IfOk result (λ v. option_map (λ es. es.items) v ≡
             take_result_by self.old.document.log by id max (without_rings self.old.queues).queues) }
-        ensures queues_after { OnOk result ((without_rings self.new.queues).queues ≡
-            queues_after_take_by self.old.document.log by id max (without_rings self.old.queues).queues) }
+        ensures ok { OnOk result (self.new ≡ slot_with_open_queues self.old
+            (ringed_queues_after_take_by self.old.document.log by id max self.old.queues.queues)) }
         ensures err { OnErr result (self.new ≡ self.old) }
         ensures memory { OnErr result
             (0 < length (unwrap_or
-            (take_result_by self.old.document.log by id max (without_rings self.old.queues).queues) [])) }
-        ensures next_unchanged { self.new.queues.next ≡ self.old.queues.next }
-        ensures document { self.new.document ≡ self.old.document }
-        ensures rings { OnOk result (self.new.queues.queues ≡
-            ringed_queues_after_take_by self.old.document.log by id max self.old.queues.queues) }
+            (take_result_by self.old.document.log by id max (without_rings self.old.queues).queues)
+            [])) }
     {
         match &self.document {
             Some(document) => self.queues.take(by, document.log(), id, max),
@@ -231,13 +220,10 @@ impl DocumentSlot {
 
     // Closes the owner's queue.
     pub(crate) fn close(&mut self, by: u64, id: SubId)
-        ensures queues { (without_rings self.new.queues).queues
-            ≡ remove_queue_by by id (without_rings self.old.queues).queues }
+        ensures closed { self.new ≡ slot_with_open_queues self.old
+            (remove_ringed_queue_by by id self.old.queues.queues) }
         ensures removed { is_open_by by id (without_rings self.old.queues).queues ≡ true →
             queue_at id (without_rings self.new.queues).queues ≡ None }
-        ensures next_unchanged { self.new.queues.next ≡ self.old.queues.next }
-        ensures rings { self.new.queues.queues ≡ remove_ringed_queue_by by id self.old.queues.queues }
-        ensures document { self.new.document ≡ self.old.document }
     {
         self.queues.close(by, id)
     }
@@ -263,14 +249,9 @@ fn append_to_document(
 ) -> Result<(), AllocError>
     requires { WillStore (document_or_empty document.old).log submission rebased.content
         (option_map value_of rebased.document) }
-    ensures log { OnOk result
-        ((document_or_empty document.new).log ≡ (decide (document_or_empty document.old).log submission now).log) }
-    ensures reply { OnOk result ((decide (document_or_empty document.old).log submission now).reply ≡
-        stored (length (document_or_empty document.old).log) (missed_entries
-        (document_or_empty document.old).log submission)) }
-    ensures unchanged_on_err { OnErr result ((document_or_empty document.new).log
-        ≡ (document_or_empty document.old).log) }
-    ensures cache_unchanged { (document_or_empty document.new).cache ≡ (document_or_empty document.old).cache }
+    ensures ok { OnOk result (DocumentAfterStore submission now
+        (document_or_empty document.old) (document_or_empty document.new)) }
+    ensures err { OnErr result (document_or_empty document.new ≡ document_or_empty document.old) }
 {
     match document {
         Some(document) => document.append(alloc, submission, now, rebased),

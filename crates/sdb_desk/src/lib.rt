@@ -6,6 +6,9 @@ mod document_slot;
 mod replay_base;
 mod resume;
 mod shard;
+mod shard_commits;
+mod shard_queues;
+mod shard_reads;
 mod work;
 
 pub use document::Reply;

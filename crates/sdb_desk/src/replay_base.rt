@@ -28,9 +28,11 @@ impl ReplayBase {
     ///
     /// [`Code::E10`] if an allocation fails. Without entries it doesn't fail.
     pub fn replay(self, alloc: Global) -> Result<Option<Json>, Code>
-        requires { is_some (snap_from (option_map value_of self.snapshot) self.entries.items) ≡ true }
+        requires { is_some (snap_from (option_map value_of self.snapshot) self.entries.items) ≡
+            true }
         ensures ok { IfOk result
-            (λ d. snap_from (option_map value_of self.snapshot) self.entries.items ≡ Some (option_map value_of d)) }
+            (λ d. snap_from (option_map value_of self.snapshot) self.entries.items ≡
+            Some (option_map value_of d)) }
         ensures err { IfErr result (λ code. code ≡ E10) }
         ensures memory { OnErr result (0 < length self.entries.items) }
     {

@@ -20,11 +20,14 @@ impl Work {
     /// The attempt with the newer look if an allocation fails. The old work is then lost. It
     /// allocates only to transform an edit against an edit, and to change a document.
     pub fn resume(self, alloc: Global, look: Look) -> Result<Work, Attempt>
-        ensures ok { IfOk result (λ w. w ≡ record { submission = self.submission; look = plain_look look }) }
+        ensures ok { IfOk result
+            (λ w. w ≡ record { submission = self.submission; look = plain_look look }) }
         ensures err { IfErr result
-            (λ a. plain_attempt a ≡ record { submission = self.submission; look = plain_look look }) }
+            (λ a. plain_attempt a ≡
+            record { submission = self.submission; look = plain_look look }) }
         ensures memory { OnErr result
-            (work_allocates (record { submission = self.submission; look = plain_look look }) ≡ true) }
+            (work_allocates (record { submission = self.submission; look = plain_look look }) ≡
+            true) }
     {
         let (attempt, worked) = self.into_parts();
         let is_front = is_prefix(attempt.look.missed.as_slice(), look.missed.as_slice());

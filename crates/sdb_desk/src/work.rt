@@ -70,7 +70,8 @@ impl Model for Work {
     ghost view = { λ w. plain_attempt w.attempt };
 
     ghost invariant = { λ w. WorkInvariant (plain_attempt w.attempt)
-        (rebased_content_of w.attempt.submission.content w.rebased) (plain_document_result w.new_document) };
+        (rebased_content_of w.attempt.submission.content w.rebased)
+        (plain_document_result w.new_document) };
 }
 
 impl Work {
@@ -195,7 +196,8 @@ impl Work {
     ///
     /// The code with which the rebase or the document refused the content.
     pub fn snapshot(&self) -> Result<Option<&Json>, Code>
-        ensures ok { IfOk result (λ d. work_result self.now ≡ Ok (option_map (λ v. value_of v.now) d)) }
+        ensures ok { IfOk result
+            (λ d. work_result self.now ≡ Ok (option_map (λ v. value_of v.now) d)) }
         ensures err { IfErr result (λ code. work_result self.now ≡ Err code) }
     {
         match &self.new_document {

@@ -2,7 +2,7 @@
 use Rattle.std.proofs.Common.{◌≡◌, ℕ, [], length, unwrap_or, sym, subst}
 use Rattle.sdb_oplog.specs.Keys.{PlainKey, Logs}
 use Rattle.sdb_desk.specs.Machine.{version_at_moment}
-use Rattle.sdb_desk.specs.ShardView.{CachesByKey, AreCachesOf}
+use Rattle.sdb_desk.specs.ShardState.{CachesByKey, AreCachesOf}
 use Rattle.sdb_desk.specs.laws.CachesLaws.{snaps_after_read, changed_cache, extended_caches}
 use Rattle.sdb_submit.specs.Calls.{CachesAfterRead}
 use Rattle.sdb_steps.specs.Caches.{CachesAfterAct}

@@ -1,7 +1,7 @@
 -- The snapshot caches after a step.
 use Rattle.std.specs.Prelude.{◌≡◌}
 use Rattle.sdb_oplog.specs.Keys.{Logs}
-use Rattle.sdb_desk.specs.ShardView.{CachesByKey}
+use Rattle.sdb_desk.specs.ShardState.{CachesByKey}
 use Rattle.sdb_submit.specs.Calls as call
 use Rattle.sdb_submit.specs.Calls.{CachesAfterCall}
 use Rattle.sdb_steps.specs.Picks.{StepKind, begin, work, commit, fetch, snapshot, snapshot_at_time, subscribe, take, unsubscribe, forget}

@@ -1,5 +1,6 @@
 -- The reference machine and the sessions of a world.
-use Rattle.sdb_desk.specs.ShardView.{CachesByKey, caches_of, queues_of}
+use Rattle.sdb_desk.specs.ShardState.{CachesByKey}
+use Rattle.sdb_desk.specs.ShardView.{caches_of, queues_of}
 use Rattle.sdb_steps.specs.OneStep.{OneStep}
 use Rattle.sdb_steps.specs.Picks.{SessionStates}
 use Rattle.sdb_steps.specs.StateView.{one_step_of_shard, session_states_of}

@@ -1,7 +1,9 @@
 //! Dispatch of a step to its session and the documents.
-ghost use Rattle.std.specs.Prelude.{◌≡◌, ℕ, None, IfOk, OnErr, option_map, string_bytes};
+ghost use Rattle.std.specs.Prelude.{◌≡◌, ℕ, None, IfOk, OnErr, length, option_map, unwrap_or, string_bytes};
 ghost use Rattle.sdb_oplog.specs.Keys.{plain_key};
-ghost use Rattle.sdb_desk.specs.ShardView.{logs_of, caches_of, queues_of};
+ghost use Rattle.sdb_desk.specs.Machine.{version_at_moment};
+ghost use Rattle.sdb_desk.specs.ShardView.{state_of, logs_of, log_at, caches_of, queues_of};
+ghost use Rattle.sdb_desk.specs.StateChanges.{StateAfterRead};
 ghost use Rattle.sdb_steps.specs.Caches.{CachesAfterAct};
 ghost use Rattle.sdb_steps.specs.LookInvariant.{HasLookAt};
 ghost use Rattle.sdb_steps.specs.Picks as plain;
@@ -131,9 +133,7 @@ fn begin(
 fn fetch(shard: &mut Shard, key: &Key) -> StepAnswer
     ensures dispatches { (i : ℕ) (x : plain.SessionState) → DispatchesAct i (one_step_of_shard shard.old) x
         (plain.fetch (plain_key key.now)) (plain_step_answer result) (one_step_of_shard shard.new) x }
-    ensures logs_unchanged { logs_of shard.new ≡ logs_of shard.old }
-    ensures queues_unchanged { queues_of shard.new ≡ queues_of shard.old }
-    ensures caches_unchanged { caches_of shard.new ≡ caches_of shard.old }
+    ensures unchanged { state_of shard.new ≡ state_of shard.old }
 {
     match shard.fetch(key) {
         Ok(fetched) => StepAnswer::Fetched(fetched),
@@ -145,10 +145,8 @@ fn fetch(shard: &mut Shard, key: &Key) -> StepAnswer
 fn snapshot(shard: &mut Shard, key: &Key, version: Option<u64>) -> StepAnswer
     ensures dispatches { (i : ℕ) (x : plain.SessionState) → DispatchesAct i (one_step_of_shard shard.old) x
         (plain.snapshot (plain_key key.now) version) (plain_step_answer result) (one_step_of_shard shard.new) x }
-    ensures logs_unchanged { logs_of shard.new ≡ logs_of shard.old }
-    ensures queues_unchanged { queues_of shard.new ≡ queues_of shard.old }
-    ensures caches { CachesAfterAct (logs_of shard.old) (plain.snapshot (plain_key key.now) version)
-        (caches_of shard.old) (caches_of shard.new) }
+    ensures cache { StateAfterRead (plain_key key.now)
+        (unwrap_or version (length (log_at shard.old key.now))) (state_of shard.old) (state_of shard.new) }
 {
     match shard.snapshot_at(key, version) {
         Ok(fetched) => StepAnswer::SnapshotFetched(Ok(fetched)),
@@ -160,10 +158,8 @@ fn snapshot(shard: &mut Shard, key: &Key, version: Option<u64>) -> StepAnswer
 fn snapshot_at_time(shard: &mut Shard, key: &Key, moment: Option<Moment>) -> StepAnswer
     ensures dispatches { (i : ℕ) (x : plain.SessionState) → DispatchesAct i (one_step_of_shard shard.old) x
         (plain.snapshot_at_time (plain_key key.now) moment) (plain_step_answer result) (one_step_of_shard shard.new) x }
-    ensures logs_unchanged { logs_of shard.new ≡ logs_of shard.old }
-    ensures queues_unchanged { queues_of shard.new ≡ queues_of shard.old }
-    ensures caches { CachesAfterAct (logs_of shard.old) (plain.snapshot_at_time (plain_key key.now) moment)
-        (caches_of shard.old) (caches_of shard.new) }
+    ensures cache { StateAfterRead (plain_key key.now)
+        (version_at_moment (log_at shard.old key.now) moment) (state_of shard.old) (state_of shard.new) }
 {
     match shard.snapshot_at_time(key, moment) {
         Ok(fetched) => StepAnswer::MomentFetched(fetched),

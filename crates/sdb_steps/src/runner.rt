@@ -8,7 +8,7 @@ ghost use Rattle.sdb_oplog.specs.Keys.{PlainKey};
 ghost use Rattle.sdb_oplog.specs.Snap.{are_identifiers_new};
 ghost use Rattle.sdb_steps.specs.TakeContinuation.{TakesContinue};
 ghost use Rattle.sdb_steps.specs.WorldView.{one_step_of_world, sessions_of, caches_of_world};
-ghost use Rattle.sdb_desk.specs.ShardView.{AreCachesOf};
+ghost use Rattle.sdb_desk.specs.ShardState.{AreCachesOf};
 ghost use Rattle.sdb_steps.specs.Lines.{reading_step, is_step, line_of, step_refusal_text};
 ghost use Rattle.sdb_steps.specs.OneStep.{Event, Legal};
 ghost use Rattle.sdb_steps.specs.Picks.{Picks, replies_in};

@@ -4,12 +4,12 @@ use Rattle.std.specs.declared.alloc.AllocError.{AllocError}
 use Rattle.std.specs.declared.alloc.Global.{Global}
 use Rattle.sdb_oplog.specs.Plain.{PlainEntry, PlainSubmission}
 use Rattle.sdb_oplog.specs.Decide.{PlainReply}
-use Rattle.sdb_oplog.specs.Keys.{PlainKey, Logs}
+use Rattle.sdb_oplog.specs.Keys.{PlainKey, Logs, with_value_at_key}
 use Rattle.sdb_oplog.specs.declared.codes.Code.{Code}
 use Rattle.sdb_subscribe.specs.Queue.{queue_at, is_open_by}
 use Rattle.sdb_desk.specs.Machine.{PlainLook, PlainAttempt, PlainOutcome, decided, moved, PlainFetchResult, PlainSubscribeResult, Machine, IsUnchanged, look_at, look_allocates, is_nonempty, read_has_document, read_has_version, fetch_result, operations_from, operations_between, snapshot_at, version_at_moment, fetch_at_moment, with_queues, close_queue, CommitsOrOutOfMemory, DecidesOrOutOfMemory, ReadOrOutOfMemory, SubscribesOrOutOfMemory, TakesOrOutOfMemory}
 use Rattle.sdb_desk.specs.Reads.{CacheAfterRead}
-use Rattle.sdb_desk.specs.ShardView.{CachesByKey, with_cache}
+use Rattle.sdb_desk.specs.ShardState.{CachesByKey}
 use Rattle.sdb_desk.specs.View.{plain_look}
 use Rattle.sdb_desk.specs.declared.work.Look.{Look}
 
@@ -105,7 +105,7 @@ MachineStep by m k (unsubscribe n) u new =
 
 -- a read at a version uses and changes the cache of its key alone
 abbrev pub CachesAfterRead : PlainKey → Logs → ℕ → CachesByKey → CachesByKey → Type 0
-CachesAfterRead k logs v old new = CacheAfterRead (logs k) v (old k) (new k) × (new ≡ with_cache old k (new k))
+CachesAfterRead k logs v old new = CacheAfterRead (logs k) v (old k) (new k) × (new ≡ with_value_at_key old k (new k))
 
 -- the caches after a call of a key, with these logs before it; only a read at a version and `forget` change one
 abbrev pub CachesAfterCall : PlainKey → Logs → PlainCall → CachesByKey → CachesByKey → Type 0
@@ -118,7 +118,7 @@ CachesAfterCall k logs (ops_from v) old new = new ≡ old
 CachesAfterCall k logs (ops_between v w) old new = new ≡ old
 CachesAfterCall k logs (snapshot v) old new = CachesAfterRead k logs (unwrap_or v (length (logs k))) old new
 CachesAfterCall k logs (snapshot_at_time t) old new = CachesAfterRead k logs (version_at_moment (logs k) t) old new
-CachesAfterCall k logs forget old new = new ≡ with_cache old k []
+CachesAfterCall k logs forget old new = new ≡ with_value_at_key old k []
 CachesAfterCall k logs (subscribe v) old new = new ≡ old
 CachesAfterCall k logs (take_next n max) old new = new ≡ old
 CachesAfterCall k logs (unsubscribe n) old new = new ≡ old

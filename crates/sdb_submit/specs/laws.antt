@@ -1,1 +1,2 @@
+pub mod ShardLaws
 pub mod SubmitLaws

@@ -2,13 +2,13 @@
 use Rattle.std.proofs.Common.{◌≡◌, ℕ, ◌≤◌, List, [], ◌++◌, length, take, Bool, true, false, cond, Option, Some, None, unwrap_or, inl, inr, refl, sym, ap, subst, arith}
 use Rattle.sdb_value.specs.Value.{Value}
 use Rattle.sdb_oplog.specs.Plain.{PlainEntry}
-use Rattle.sdb_oplog.specs.Keys.{PlainKey, Logs, keys_equal}
+use Rattle.sdb_oplog.specs.Keys.{PlainKey, Logs, keys_equal, with_value_at_key}
 use Rattle.sdb_oplog.specs.Snap.{snap, document_of}
 use Rattle.sdb_snapcache.specs.CacheModel.{Snapshot, promote_nearest}
 use Rattle.sdb_snapcache.specs.SnapInvariant.{AreSnapsOf}
 use Rattle.sdb_snapcache.specs.laws.CacheLaws.{snaps_of_promoted_nearest, snaps_of_inserted, snaps_of_extension}
 use Rattle.sdb_desk.specs.Reads.{CacheAfterOffer, CacheAfterRead}
-use Rattle.sdb_desk.specs.ShardView.{CachesByKey, AreCachesOf, with_cache}
+use Rattle.sdb_desk.specs.ShardState.{CachesByKey, AreCachesOf}
 use Rattle.sdb_desk.specs.laws.KeyLaws.{eq_of_keys_equal}
 
 -- ---- one cache
@@ -31,13 +31,13 @@ snaps_after_read log v kept new snaps (inr h) =
 
 -- ---- all caches
 
-cache_at : (b : Bool) (logs : Logs) (j k : PlainKey) (w : List Snapshot) (caches : CachesByKey) → keys_equal j k ≡ b → AreSnapsOf (logs j) w → AreSnapsOf (logs k) (caches k) → AreSnapsOf (logs k) (cond b w (caches k))
-cache_at true logs j k w caches is h g = subst (λ (q : PlainKey). AreSnapsOf (logs q) w) (eq_of_keys_equal j k is) h
-cache_at false logs j k w caches is h g = g
+snaps_of_cache_update : (b : Bool) (logs : Logs) (j k : PlainKey) (w : List Snapshot) (caches : CachesByKey) → keys_equal j k ≡ b → AreSnapsOf (logs j) w → AreSnapsOf (logs k) (caches k) → AreSnapsOf (logs k) (cond b w (caches k))
+snaps_of_cache_update true logs j k w caches is h g = subst (λ (q : PlainKey). AreSnapsOf (logs q) w) (eq_of_keys_equal j k is) h
+snaps_of_cache_update false logs j k w caches is h g = g
 
 -- one cache changes
-pub changed_cache : (logs : Logs) (j : PlainKey) (w : List Snapshot) (old new : CachesByKey) → AreCachesOf logs old → AreSnapsOf (logs j) w → new ≡ with_cache old j w → AreCachesOf logs new
-changed_cache logs j w old new all h is = subst (AreCachesOf logs) (sym is) (λ k. cache_at (keys_equal j k) logs j k w old refl h (all k))
+pub changed_cache : (logs : Logs) (j : PlainKey) (w : List Snapshot) (old new : CachesByKey) → AreCachesOf logs old → AreSnapsOf (logs j) w → new ≡ with_value_at_key old j w → AreCachesOf logs new
+changed_cache logs j w old new all h is = subst (AreCachesOf logs) (sym is) (λ k. snaps_of_cache_update (keys_equal j k) logs j k w old refl h (all k))
 
 -- the logs grow
 pub extended_caches : (logs new : Logs) (caches : CachesByKey)

@@ -15,14 +15,14 @@ returns-then-is_out_of_memory-clause-commits c =
     let k = plain_key c.args.key in
     let said = c.in-Decided.ensures in
     let wanting = c.if-is_out_of_memory.ensures.memory refl in
-    tries_out_of_memory c.args.shard.now c.commit.new.self k c.args.work c.args.now (plain_reply c.in-Decided.reply) c.args.tries c.args.is_worked _ c.requires.bound wanting said.commits said.queues_unchanged
+    tries_out_of_memory c.args.shard.now c.commit.new.self k c.args.work c.args.now (plain_reply c.in-Decided.reply) c.args.tries c.args.is_worked _ c.requires.bound wanting said.commits.commits said.commits.others.queues_unchanged
     (c.restore_attempt-phase.ensures.plain k c.args.tries ∙ ap (λ (w : PlainAttempt). attempt_of k w c.args.tries c.args.is_worked) (subst (λ r. WorkAfterCommit (decided r) c.args.work c.commit.new.work) wanting said.work))
 
 pub returns-else-is_out_of_memory-clause-commits : goal.returns-else-is_out_of_memory-clause-commits
 returns-else-is_out_of_memory-clause-commits c =
     let k = plain_key c.args.key in
     let said = c.in-Decided.ensures in
-    tries_decided c.args.shard.now c.commit.new.self k c.args.work c.args.now (plain_reply c.in-Decided.reply) c.args.tries c.args.is_worked (c.if-is_out_of_memory.ensures.enough refl) said.commits said.queues_unchanged
+    tries_decided c.args.shard.now c.commit.new.self k c.args.work c.args.now (plain_reply c.in-Decided.reply) c.args.tries c.args.is_worked (c.if-is_out_of_memory.ensures.enough refl) said.commits.commits said.commits.others.queues_unchanged
 
 pub returns-in-Moved-clause-commits : goal.returns-in-Moved-clause-commits
 returns-in-Moved-clause-commits c =
@@ -31,7 +31,7 @@ returns-in-Moved-clause-commits c =
     let n = c.args.tries + 1 in
     let v = c.in-Moved.look.version in
     let again : PlainAttempt → plain.PlainOpenAttempt = λ w. record { key = k; submission = w.submission; looked_version = v; tries = n; is_worked = false } in
-    tries_moved c.args.shard.now c.commit.new.self k c.args.work c.args.now (plain_look c.in-Moved.look) c.args.tries c.args.is_worked _ c.requires.bound said.commits said.queues_unchanged (c.look_again-phase.ensures.plain k n ∙ ap again said.work)
+    tries_moved c.args.shard.now c.commit.new.self k c.args.work c.args.now (plain_look c.in-Moved.look) c.args.tries c.args.is_worked _ c.requires.bound said.commits.commits said.commits.others.queues_unchanged (c.look_again-phase.ensures.plain k n ∙ ap again said.work)
 
 pub returns-then-is_out_of_memory-clause-looked : goal.returns-then-is_out_of_memory-clause-looked
 returns-then-is_out_of_memory-clause-looked c =
@@ -39,7 +39,7 @@ returns-then-is_out_of_memory-clause-looked c =
     let said = c.in-Decided.ensures in
     let r = plain_reply c.in-Decided.reply in
     let wanting = c.if-is_out_of_memory.ensures.memory refl in
-    looked_out_of_memory (logs_of c.args.shard.now) (logs_of c.commit.new.self) k (attempt_in c.restore_attempt-phase.result) c.args.work c.args.now r wanting said.commits
+    looked_out_of_memory (logs_of c.args.shard.now) (logs_of c.commit.new.self) k (attempt_in c.restore_attempt-phase.result) c.args.work c.args.now r wanting said.commits.commits
     (c.restore_attempt-phase.ensures.attempt ∙ subst (λ r. WorkAfterCommit (decided r) c.args.work c.commit.new.work) wanting said.work) c.requires.looked
 
 pub returns-in-Moved-clause-looked : goal.returns-in-Moved-clause-looked
@@ -48,4 +48,4 @@ returns-in-Moved-clause-looked c =
     let said = c.in-Moved.ensures in
     let l = plain_look c.in-Moved.look in
     let again : PlainAttempt → PlainAttempt = λ w. record { submission = w.submission; look = l } in
-    looked_moved (logs_of c.args.shard.now) (logs_of c.commit.new.self) k (attempt_in c.look_again-phase.result) c.args.work c.args.now l said.commits (c.look_again-phase.ensures.attempt ∙ ap again said.work)
+    looked_moved (logs_of c.args.shard.now) (logs_of c.commit.new.self) k (attempt_in c.look_again-phase.result) c.args.work c.args.now l said.commits.commits (c.look_again-phase.ensures.attempt ∙ ap again said.work)

@@ -2,6 +2,8 @@ use Rattle.std.proofs.Common.{refl, sym, subst}
 use Rattle.sdb_oplog.specs.Keys.{plain_key}
 use Rattle.sdb_steps.specs.Picks.{PlainStepAnswer, snapshot}
 use Rattle.sdb_steps.specs.Dispatch.{DispatchesAct}
+use Rattle.sdb_desk.specs.ShardView.{state_of}
+use Rattle.sdb_desk.specs.laws.StateLaws.{machine_of_cache_change}
 use Rattle.sdb_steps.specs.StateView.{one_step_of_shard}
 use Rattle.sdb_steps.specs.View.{plain_fetched}
 use Rattle.sdb_steps.proofs.CommitLemmas.{same_core}
@@ -13,13 +15,15 @@ returns-in-Err-clause-dispatches c =
     let m = one_step_of_shard c.args.shard.now in
     let n = one_step_of_shard c.snapshot_at.new.self in
     let k = plain_key c.args.key.now in
+    let same = machine_of_cache_change k (state_of c.args.shard.now) (state_of c.snapshot_at.new.self) c.snapshot_at.ensures.cache.1 in
     let told = c.in-Err.ensures in
-    λ i x. subst (λ (z : PlainStepAnswer). DispatchesAct i m x (snapshot k c.args.version) z n x) (sym c.refused_snapshot.ensures) (snapshot_refused i m n x x k c.args.version c.in-Err.code told.snapshot (same_core c.args.shard.now c.snapshot_at.new.self told.logs_unchanged told.queues_unchanged) refl)
+    λ i x. subst (λ (z : PlainStepAnswer). DispatchesAct i m x (snapshot k c.args.version) z n x) (sym c.refused_snapshot.ensures) (snapshot_refused i m n x x k c.args.version c.in-Err.code told.snapshot (same_core c.args.shard.now c.snapshot_at.new.self same.0 same.1) refl)
 
 pub returns-in-Ok-clause-dispatches : goal.returns-in-Ok-clause-dispatches
 returns-in-Ok-clause-dispatches c =
     let m = one_step_of_shard c.args.shard.now in
     let n = one_step_of_shard c.snapshot_at.new.self in
     let k = plain_key c.args.key.now in
+    let same = machine_of_cache_change k (state_of c.args.shard.now) (state_of c.snapshot_at.new.self) c.snapshot_at.ensures.cache.1 in
     let told = c.in-Ok.ensures in
-    λ i x. snapshot_read i m n x x k c.args.version (plain_fetched c.in-Ok.fetched) told.snapshot (same_core c.args.shard.now c.snapshot_at.new.self told.logs_unchanged told.queues_unchanged) refl
+    λ i x. snapshot_read i m n x x k c.args.version (plain_fetched c.in-Ok.fetched) told.snapshot (same_core c.args.shard.now c.snapshot_at.new.self same.0 same.1) refl

@@ -1,5 +1,5 @@
 use Rattle.std.proofs.Common.{map, take}
-use Rattle.sdb_desk.specs.ShardView.{AreCachesOf}
+use Rattle.sdb_desk.specs.ShardState.{AreCachesOf}
 use Rattle.sdb_steps.specs.WorldView.{one_step_of_world, sessions_of, caches_of_world}
 use Rattle.sdb_steps.specs.Runs.{IsRun}
 use Rattle.sdb_steps.specs.View.{plain_session_step, plain_step_answer}

@@ -1,14 +1,15 @@
 use Rattle.sdb_oplog.specs.Keys.{plain_key}
-use Rattle.sdb_desk.specs.ShardView.{machine_of}
+use Rattle.sdb_desk.specs.ShardView.{state_of}
 use Rattle.sdb_desk.specs.View.{fetch_result_view}
-use Rattle.sdb_submit.specs.Calls as call
-use Rattle.sdb_backend.proofs.HistoryGrowth.{acts_grown}
+use Rattle.sdb_submit.specs.laws.ShardLaws.{snapshot_call}
+use Rattle.sdb_backend.proofs.HistoryGrowth.{call_grown}
 use Rattle.sdb_backend.proofs.jobs.SnapshotAtJobJobHeld.run.Goals as goal
 
 pub returns-clause-extends : goal.returns-clause-extends
-returns-clause-extends c =
-    (acts_grown c.args._number (machine_of c.args.held.now.shard) (plain_key c.args.self.key.now) (call.snapshot c.args.self.version) (fetch_result_view c.snapshot_at.result) (machine_of c.snapshot_at.new.self) tt (c.snapshot_at.ensures.snapshot, (c.snapshot_at.ensures.logs_unchanged, c.snapshot_at.ensures.queues_unchanged))).extends
+returns-clause-extends c = (call_grown _ _ _ _ _ _ tt (snapshot_call c.args._number (plain_key c.args.self.key.now) (state_of c.args.held.now.shard) (state_of c.snapshot_at.new.self) c.args.self.version (fetch_result_view c.snapshot_at.result) c.snapshot_at.ensures.snapshot c.snapshot_at.ensures.cache)).extends
 
 pub returns-clause-others_unchanged : goal.returns-clause-others_unchanged
-returns-clause-others_unchanged c =
-    (acts_grown c.args._number (machine_of c.args.held.now.shard) (plain_key c.args.self.key.now) (call.snapshot c.args.self.version) (fetch_result_view c.snapshot_at.result) (machine_of c.snapshot_at.new.self) tt (c.snapshot_at.ensures.snapshot, (c.snapshot_at.ensures.logs_unchanged, c.snapshot_at.ensures.queues_unchanged))).others
+returns-clause-others_unchanged c = (call_grown _ _ _ _ _ _ tt (snapshot_call c.args._number (plain_key c.args.self.key.now) (state_of c.args.held.now.shard) (state_of c.snapshot_at.new.self) c.args.self.version (fetch_result_view c.snapshot_at.result) c.snapshot_at.ensures.snapshot c.snapshot_at.ensures.cache)).others
+
+pub returns-clause-postcondition : goal.returns-clause-postcondition
+returns-clause-postcondition c = (snapshot_call c.args._number (plain_key c.args.self.key.now) (state_of c.args.held.now.shard) (state_of c.snapshot_at.new.self) c.args.self.version (fetch_result_view c.snapshot_at.result) c.snapshot_at.ensures.snapshot c.snapshot_at.ensures.cache).step

@@ -1,8 +1,13 @@
-use Rattle.std.proofs.Common.{refl}
+use Rattle.std.proofs.Common.{inl, unwrap_or, refl, ap, ◌∙◌, arith}
 use Rattle.sdb_oplog.specs.Keys.{plain_key}
-use Rattle.sdb_desk.specs.laws.MapLaws.{updated_at_unchanged}
-use Rattle.sdb_desk.specs.ShardView.{caches_of}
+use Rattle.sdb_desk.specs.Reads.{CacheAfterRead}
+use Rattle.sdb_desk.specs.ShardView.{state_of, logs_of}
+use Rattle.sdb_desk.proofs.StateLemmas.{only_cache_of_unchanged}
 use Rattle.sdb_desk.proofs.shard.Shard.snapshot_at.Goals as goal
 
-pub returns-then-present-version-clause-others_unchanged : goal.returns-then-present-version-clause-others_unchanged
-returns-then-present-version-clause-others_unchanged c = updated_at_unchanged (caches_of c.args.self.now) _ (plain_key c.args.key.now) refl
+pub returns-then-present-version-clause-cache : goal.returns-then-present-version-clause-cache
+returns-then-present-version-clause-cache c =
+    let k = plain_key c.args.key.now in
+    let s = state_of c.args.self.now in
+    let is = c.unwrap_or-version.ensures ∙ ap (unwrap_or c.args.version) c.version-present.ensures in
+    only_cache_of_unchanged (CacheAfterRead (logs_of c.args.self.now k) _) k s s refl (inl (omega (arith, c.if-present-version.true, c.version-present.ensures, is), refl))

@@ -1,60 +1,25 @@
-use Rattle.std.proofs.Common.{ap, ◌∙◌}
+use Rattle.std.proofs.Common.{◌≤◌, length, inl, refl, ap, arith}
 use Rattle.sdb_oplog.specs.Keys.{plain_key}
-use Rattle.sdb_desk.specs.SlotModel.{empty_slot}
 use Rattle.sdb_desk.specs.MapModel.{value_at_key}
-use Rattle.sdb_desk.specs.laws.MapLaws.{updated_of_write, value_at_lookup_some, updated_at_unchanged, updated_of_write_at}
-use Rattle.sdb_desk.specs.ShardView.{slots_of, caches_of}
-use Rattle.sdb_desk.proofs.MapWriteLemmas.{map_of_updated, map_of_updated_same, queues_unchanged, rings_unchanged}
-use Rattle.sdb_subscribe.specs.Ring.{without_rings}
+use Rattle.sdb_desk.specs.Reads.{CacheAfterRead}
+use Rattle.sdb_desk.specs.ShardState.{state_of_slots}
+use Rattle.sdb_desk.specs.ShardView.{state_of, logs_of}
+use Rattle.sdb_desk.specs.SlotModel.{empty_slot}
+use Rattle.sdb_desk.specs.laws.MapLaws.{value_at_lookup_none}
+use Rattle.sdb_desk.proofs.StateLemmas.{only_cache_of_unchanged, only_cache_of_write}
 use Rattle.sdb_desk.proofs.shard.Shard.snapshot_of.Goals as goal
 
-pub returns-in-Some-clause-logs_unchanged : goal.returns-in-Some-clause-logs_unchanged
-returns-in-Some-clause-logs_unchanged c =
-    let es = c.args.self.now.slots.entries in
-    let old = c.in-Some.slot.now in
+pub returns-in-Some-clause-cache : goal.returns-in-Some-clause-cache
+returns-in-Some-clause-cache c =
     let new = c.snapshot_at.new.self in
-    let k = plain_key c.args.key.now in
-    let f = slots_of c.args.self.now in
-    let g = value_at_key empty_slot (c.get_mut.follows.lender new).entries in
-    let found = value_at_lookup_some empty_slot es c.args.key.now old c.in-Some.ensures.value in
-    let wrote = updated_of_write empty_slot es _ c.args.key.now old new c.in-Some.ensures.value (c.get_mut.follows.holds new).0 in
-    map_of_updated_same (λ t. t.document.log) f g k new wrote (c.snapshot_at.ensures.log ∙ ap (λ t. t.document.log) found)
+    only_cache_of_write c.args.self.now.slots.entries _ c.args.key.now c.in-Some.slot.now new c.in-Some.ensures.value (c.get_mut.follows.holds new).0
+    (λ log. CacheAfterRead log c.args.version) c.snapshot_at.ensures.cache
 
-pub returns-in-Some-clause-others_unchanged : goal.returns-in-Some-clause-others_unchanged
-returns-in-Some-clause-others_unchanged c =
-    let es = c.args.self.now.slots.entries in
-    let old = c.in-Some.slot.now in
-    let new = c.snapshot_at.new.self in
+pub returns-in-None-clause-cache : goal.returns-in-None-clause-cache
+returns-in-None-clause-cache c =
     let k = plain_key c.args.key.now in
-    let f = slots_of c.args.self.now in
-    let g = value_at_key empty_slot (c.get_mut.follows.lender new).entries in
-    let wrote = updated_of_write empty_slot es _ c.args.key.now old new c.in-Some.ensures.value (c.get_mut.follows.holds new).0 in
-    updated_of_write_at (caches_of c.args.self.now) _ k new.document.cache (map_of_updated (λ t. t.document.cache) f g k new wrote)
-
-pub returns-in-None-clause-others_unchanged : goal.returns-in-None-clause-others_unchanged
-returns-in-None-clause-others_unchanged c =
-    updated_at_unchanged (caches_of c.args.self.now) _ (plain_key c.args.key.now) (ap (λ m. (λ q. (value_at_key empty_slot m.entries q).document.cache)) c.get_mut.follows.holds-at-none)
-
-pub returns-in-Some-clause-queues_unchanged : goal.returns-in-Some-clause-queues_unchanged
-returns-in-Some-clause-queues_unchanged c =
-    let es = c.args.self.now.slots.entries in
-    let old = c.in-Some.slot.now in
-    let new = c.snapshot_at.new.self in
-    let k = plain_key c.args.key.now in
-    let f = slots_of c.args.self.now in
-    let g = value_at_key empty_slot (c.get_mut.follows.lender new).entries in
-    let found = value_at_lookup_some empty_slot es c.args.key.now old c.in-Some.ensures.value in
-    let wrote = updated_of_write empty_slot es _ c.args.key.now old new c.in-Some.ensures.value (c.get_mut.follows.holds new).0 in
-    queues_unchanged f g k old new found wrote (ap without_rings c.snapshot_at.ensures.queues_unchanged)
-
-pub returns-in-Some-clause-rings_unchanged : goal.returns-in-Some-clause-rings_unchanged
-returns-in-Some-clause-rings_unchanged c =
-    let es = c.args.self.now.slots.entries in
-    let old = c.in-Some.slot.now in
-    let new = c.snapshot_at.new.self in
-    let k = plain_key c.args.key.now in
-    let f = slots_of c.args.self.now in
-    let g = value_at_key empty_slot (c.get_mut.follows.lender new).entries in
-    let found = value_at_lookup_some empty_slot es c.args.key.now old c.in-Some.ensures.value in
-    let wrote = updated_of_write empty_slot es _ c.args.key.now old new c.in-Some.ensures.value (c.get_mut.follows.holds new).0 in
-    rings_unchanged f g k old new found wrote c.snapshot_at.ensures.queues_unchanged
+    let log = logs_of c.args.self.now k in
+    let none = value_at_lookup_none empty_slot c.args.self.now.slots.entries c.args.key.now c.in-None.ensures.value in
+    let empty : length log ≤ c.args.version = omega (arith, ap (λ t. length t.document.log) none) in
+    only_cache_of_unchanged (CacheAfterRead log c.args.version) k (state_of c.args.self.now) _
+    (ap (λ m. state_of_slots (value_at_key empty_slot m.entries)) c.get_mut.follows.holds-at-none) (inl (empty, refl))

@@ -1,7 +1,10 @@
-use Rattle.sdb_desk.specs.ShardView.{logs_of, queues_of}
+use Rattle.sdb_oplog.specs.Keys.{plain_key}
+use Rattle.sdb_desk.specs.ShardView.{logs_of, queues_of, state_of}
+use Rattle.sdb_desk.specs.View.{fetch_result_view}
+use Rattle.sdb_submit.specs.laws.ShardLaws.{fetch_call}
 use Rattle.sdb_service_tests.proofs.submit.ContendedStoreDesk.fetch.Goals as goal
 
 pub returns-clause-step : goal.returns-clause-step
 returns-clause-step c =
     let s = c.args.pass.now.shard in
-    (logs_of s, (queues_of s, (c.fetch.ensures.fetched, (c.fetch.ensures.logs_unchanged, c.fetch.ensures.queues_unchanged))))
+    (logs_of s, (queues_of s, (fetch_call 0 (plain_key c.args.key.now) (state_of s) (state_of c.fetch.new.self) (fetch_result_view c.fetch.result) c.fetch.ensures.fetched c.fetch.ensures.unchanged).step))

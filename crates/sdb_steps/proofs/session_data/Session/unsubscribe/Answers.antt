@@ -1,7 +1,8 @@
 use Rattle.std.proofs.Common.{◌≡◌, Some, option_map, ap, sym, ◌∙◌}
 use Rattle.sdb_oplog.specs.Keys.{plain_key}
-use Rattle.sdb_desk.specs.laws.MapLaws.{value_of_updated, updated_of_write_at}
-use Rattle.sdb_desk.specs.ShardView.{logs_of, queues_of}
+use Rattle.sdb_desk.specs.laws.MapLaws.{value_of_updated}
+use Rattle.sdb_desk.specs.laws.StateLaws.{queues_of_close}
+use Rattle.sdb_desk.specs.ShardView.{state_of, logs_of, queues_of}
 use Rattle.sdb_desk.specs.Machine.{close_queue}
 use Rattle.sdb_steps.specs.StateView.{plain_open_attempt, queue_slots_of, queue_slots_in}
 use Rattle.sdb_steps.proofs.QueueStepLemmas.{TakeFacts, stands_of, closed_turn, closed_leaves}
@@ -20,9 +21,9 @@ returns-clause-dispatches c =
     let a = option_map plain_open_attempt c.args.self.now.attempt in
     let at : s k ≡ Some n = sym c.queue_of.ensures ∙ c.in-Some.is in
     let w = stands_of c.args.by _ (c.requires k n at).1 in
-    let told = c.unsubscribe.ensures in
+    let told = queues_of_close k c.args.by n (state_of c.args.shard.now) (state_of c.unsubscribe.new.self) c.unsubscribe.ensures.closed in
     let shut = value_of_updated q0 q1 k (close_queue c.args.by n (q0 k)) told.queues in
-    let h : TakeFacts c.args.by q0 q1 l0 l1 s t k n w.0 a = record { all = c.requires; at = at; stands = w.1; others = updated_of_write_at q0 q1 k (close_queue c.args.by n (q0 k)) told.queues; next = ap (λ z. z.next) shut; logs = told.logs_unchanged } in
+    let h : TakeFacts c.args.by q0 q1 l0 l1 s t k n w.0 a = record { all = c.requires; at = at; stands = w.1; others = told.others_unchanged; next = ap (λ z. z.next) shut; logs = told.logs_unchanged } in
     closed_turn c.args.by q0 q1 l0 l1 s t k n w.0 a h shut c.drop_slot.ensures
 
 pub returns-clause-other_queues_unchanged : goal.returns-clause-other_queues_unchanged
@@ -38,7 +39,13 @@ returns-clause-other_queues_unchanged c =
     let a = option_map plain_open_attempt c.args.self.now.attempt in
     let at : s k ≡ Some n = sym c.queue_of.ensures ∙ c.in-Some.is in
     let w = stands_of c.args.by _ (c.requires k n at).1 in
-    let told = c.unsubscribe.ensures in
+    let told = queues_of_close k c.args.by n (state_of c.args.shard.now) (state_of c.unsubscribe.new.self) c.unsubscribe.ensures.closed in
     let shut = value_of_updated q0 q1 k (close_queue c.args.by n (q0 k)) told.queues in
-    let h : TakeFacts c.args.by q0 q1 l0 l1 s t k n w.0 a = record { all = c.requires; at = at; stands = w.1; others = updated_of_write_at q0 q1 k (close_queue c.args.by n (q0 k)) told.queues; next = ap (λ z. z.next) shut; logs = told.logs_unchanged } in
+    let h : TakeFacts c.args.by q0 q1 l0 l1 s t k n w.0 a = record { all = c.requires; at = at; stands = w.1; others = told.others_unchanged; next = ap (λ z. z.next) shut; logs = told.logs_unchanged } in
     closed_leaves c.args.by q0 q1 l0 l1 s t k n w.0 a h shut c.drop_slot.ensures
+
+pub returns-clause-logs_unchanged : goal.returns-clause-logs_unchanged
+returns-clause-logs_unchanged c = ap (λ s. s.logs) c.unsubscribe.ensures.closed
+
+pub returns-clause-caches_unchanged : goal.returns-clause-caches_unchanged
+returns-clause-caches_unchanged c = ap (λ s. s.caches) c.unsubscribe.ensures.closed

@@ -1,4 +1,5 @@
 use Rattle.std.proofs.Common.{◌≡◌, ◌+◌, ◌∷◌, [], ◌++◌, List, length, length-append, arith, ap, sym, subst, ◌∙◌}
+use Rattle.sdb_desk.specs.ShardState.{plain_queues}
 use Rattle.sdb_desk.specs.ShardView.{logs_of}
 use Rattle.sdb_steps.specs.LookInvariant.{AllHaveLookAt}
 use Rattle.sdb_steps.specs.StateView.{session_states_of, queue_slots_at}
@@ -27,3 +28,12 @@ loop-preserved c =
       looked = λ logs. subst (λ (ys : List Session). AllHaveLookAt logs ys) (sym pushed) (looked_more logs xs x (looked_none logs x.attempt c.new.ensures.attempt) (c.loop.invariant.looked logs));
       empty = λ n k. ap (λ (ys : List Session). queue_slots_at ys n k) pushed ∙ none_more xs x c.new.ensures.slots c.loop.invariant.empty n k;
     }
+
+pub returns-clause-logs : goal.returns-clause-logs
+returns-clause-logs c = ap (λ s. s.logs) c.new-2.ensures
+
+pub returns-clause-queues : goal.returns-clause-queues
+returns-clause-queues c = ap plain_queues c.new-2.ensures
+
+pub returns-clause-caches : goal.returns-clause-caches
+returns-clause-caches c = ap (λ s. s.caches) c.new-2.ensures

@@ -1,9 +1,17 @@
 use Rattle.sdb_oplog.specs.Keys.{plain_key}
-use Rattle.sdb_desk.specs.ShardView.{logs_of}
+use Rattle.sdb_desk.specs.ShardView.{logs_of, state_of}
 use Rattle.sdb_desk.specs.View.{plain_outcome}
+use Rattle.sdb_submit.specs.laws.ShardLaws.{commit_call}
 use Rattle.sdb_submit.specs.laws.SubmitLaws.{moved_is_look}
 use Rattle.sdb_submit.proofs.solo.SoloDesk.commit.Goals as goal
 
 pub returns-clause-seen : goal.returns-clause-seen
 returns-clause-seen c =
-    moved_is_look (logs_of c.args.pass.now) (logs_of c.commit.new.self) (plain_key c.args.key.now) c.args.work.now c.args.now (plain_outcome c.commit.result) c.commit.ensures.commits
+    moved_is_look (logs_of c.args.pass.now) (logs_of c.commit.new.self) (plain_key c.args.key.now) c.args.work.now c.args.now (plain_outcome c.commit.result) c.commit.ensures.commits.commits
+
+pub returns-clause-step : goal.returns-clause-step
+returns-clause-step c =
+    (commit_call 0 (plain_key c.args.key.now) (state_of c.args.pass.now) (state_of c.commit.new.self) c.args.work.now c.args.now (plain_outcome c.commit.result) c.commit.ensures.commits).step
+
+pub returns-clause-caches : goal.returns-clause-caches
+returns-clause-caches c = c.commit.ensures.commits.others.caches_unchanged

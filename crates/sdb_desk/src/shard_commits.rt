@@ -1,0 +1,272 @@
+//! A shard's looks and commits.
+ghost use Rattle.std.specs.Prelude.{◌≡◌, ℕ, [], true, IfOk, IfErr, IsErrOf, OnOk, OnErr, option_map};
+ghost use Rattle.sdb_oplog.specs.Decide.{missed_entries, decide_allocates};
+ghost use Rattle.sdb_oplog.specs.DecidedLog.{CanStore, WillStore, IsRejectedAs, IsRejectionOrOutOfMemory};
+ghost use Rattle.sdb_oplog.specs.Keys.{plain_key};
+ghost use Rattle.sdb_oplog.specs.Snap.{document_of};
+ghost use Rattle.sdb_oplog.specs.declared.codes.Code.TheVariants.{E10};
+ghost use Rattle.sdb_oplog.specs.declared.decided_log.Rejection.TheVariants.{Refused};
+ghost use Rattle.sdb_value.specs.View.{value_of};
+ghost use Rattle.sdb_desk.specs.ShardView.{slots_of, log_at, state_of};
+ghost use Rattle.sdb_desk.specs.SlotModel.{empty_slot};
+ghost use Rattle.sdb_desk.specs.Looks.{IsLook};
+ghost use Rattle.sdb_desk.specs.Machine.{IsRefusedByWork, look_at, look_allocates, WorkAfterCommit};
+ghost use Rattle.sdb_desk.specs.View.{plain_look, plain_outcome, outcome_of_decision};
+ghost use Rattle.sdb_desk.specs.ReplyView.{plain_reply};
+ghost use Rattle.sdb_desk.specs.StateChanges.{StateAfterStore, StateAfterCommit, StateAfterDecision};
+
+use crate::document::{Reply, look_at};
+use crate::document_slot::DocumentSlot;
+use crate::shard::{CommitDecision, Outcome, Shard};
+use crate::work::{Look, Work};
+use sdb_oplog::{
+    Code, Content, DecidedLog, Entry, Key, Moment, RebaseResult, Rejection, Submission,
+    clone_document, clone_entries,
+};
+use std::alloc::AllocError;
+
+impl Shard {
+    /// Reads what a submission needs: version, duplicate, missed entries and snapshot. The snapshot
+    /// is a shared pointer.
+    ///
+    /// # Errors
+    ///
+    /// [`AllocError`] if an allocation fails. Without missed entries and a document it doesn't
+    /// fail.
+    pub fn look(&self, key: &Key, submission: &Submission) -> Result<Look, AllocError>
+        ensures look { IfOk result
+            (λ l. plain_look l ≡ look_at (log_at self.now key.now) submission.now) }
+        ensures memory { OnErr result
+            (look_allocates (log_at self.now key.now) submission.now ≡ true) }
+    {
+        match self.find(key) {
+            Some(document) => look_at(self.alloc, document.decided(), submission),
+            None => look_at(self.alloc, &DecidedLog::new(self.alloc), submission),
+        }
+    }
+
+    /// Decides the submission of a work if the log hasn't grown since its look. Otherwise returns a
+    /// new look, and the work is unchanged.
+    ///
+    /// A stored entry has the moment `now`, or that of the entry before it if that is later. The
+    /// reply then takes the missed entries out of the work, which keeps its submission; in all
+    /// other cases the work is unchanged.
+    ///
+    /// `Refused(E10)` is an allocation failure, and nothing changes. A duplicate, a full log, a
+    /// version that is too new and a refused work don't allocate.
+    ///
+    /// ```
+    /// let look = shard.look(&key, &submission)?;
+    /// let Ok(mut work) = Work::compute(alloc, Attempt { submission, look }) else {
+    ///     return Err(Code::E10);
+    /// };
+    /// let outcome = shard.commit(&key, &mut work, Moment::zero());
+    /// assert!(rt; matches!(outcome, Outcome::Decided(Reply::Stored { v: 0, .. })));
+    /// ```
+    pub fn commit(&mut self, key: &Key, work: &mut Work, now: Moment) -> Outcome
+        requires { IsLook (log_at self.old key.now) work.old }
+        ensures commits { StateAfterCommit (plain_key key.now) work.old now (plain_outcome result)
+            (state_of self.old) (state_of self.new) }
+        ensures work { WorkAfterCommit (plain_outcome result) work.old work.new }
+    {
+        let decision = self.decide(key, work, now);
+        work.finish(self.alloc, decision)
+    }
+
+    /// Decides a work as [`commit`](Shard::commit) does. The caller updates the work with
+    /// [`Work::finish`].
+    pub fn decide(&mut self, key: &Key, work: &Work, now: Moment) -> CommitDecision
+        requires { IsLook (log_at self.old key.now) work.now }
+        ensures { StateAfterCommit (plain_key key.now) work.now now
+            (outcome_of_decision work.now result) (state_of self.old) (state_of self.new) }
+    {
+        if self.version(key) != work.version() {
+            return CommitDecision::Reply(match self.look(key, work.submission()) {
+                Ok(look) => Outcome::Moved(look),
+                Err(error) => Outcome::Decided(Reply::Refused(Code::from(error))),
+            });
+        }
+        match self.append_work(key, work, now) {
+            Ok(()) => CommitDecision::Store { v: work.version() },
+            Err(rejection) => CommitDecision::Reply(Outcome::Decided(Reply::from(rejection))),
+        }
+    }
+
+    /// Decides a submission at a moment, in one step. `Refused(E10)` is an allocation failure, and
+    /// nothing changes. A duplicate, a full log, a version that is too new, a create on a present
+    /// document and an edit of an absent one don't allocate.
+    pub fn commit_now(&mut self, key: &Key, submission: &Submission, now: Moment) -> Reply
+        ensures { StateAfterDecision (plain_key key.now) submission.now now (plain_reply result)
+            (state_of self.old) (state_of self.new) }
+    {
+        let v = self.version(key);
+        match self.append_now(key, submission, now) {
+            Ok(missed) => Reply::Stored { v, missed },
+            Err(rejection) => Reply::from(rejection),
+        }
+    }
+
+    /// Decides the submission of a work at a moment, in one step, even if the log has grown since
+    /// its look. Only newer entries are transformed against. If an allocation for this fails, it
+    /// decides as [`Shard::commit_now`] does.
+    pub fn commit_last(&mut self, key: &Key, work: Work, now: Moment) -> Reply
+        ensures { StateAfterDecision (plain_key key.now) work.submission now (plain_reply result)
+            (state_of self.old) (state_of self.new) }
+    {
+        let Ok(look) = self.look(key, work.submission()) else {
+            return self.commit_now(key, work.submission(), now);
+        };
+        match work.resume(self.alloc, look) {
+            Ok(mut resumed) => match self.commit(key, &mut resumed, now) {
+                Outcome::Decided(reply) => reply,
+                Outcome::Moved(_) => unreachable!(),
+            },
+            Err(attempt) => self.commit_now(key, &attempt.submission, now),
+        }
+    }
+
+    // Appends a work's submission with its rebased content, unless it is rejected.
+    fn append_work(&mut self, key: &Key, work: &Work, now: Moment) -> Result<(), Rejection>
+        requires missed { work.now.look.missed ≡
+            missed_entries (log_at self.old key.now) work.now.submission }
+        requires snapshot { work.now.look.snapshot ≡ document_of (log_at self.old key.now) }
+        ensures ok { OnOk result (StateAfterStore (plain_key key.now) work.now.submission now
+            (state_of self.old) (state_of self.new)) }
+        ensures err { IfErr result
+            (IsRejectionOrOutOfMemory (log_at self.old key.now) work.now.submission now) }
+        ensures memory { IsErrOf result (Refused E10) →
+            decide_allocates (log_at self.old key.now) work.now.submission ≡ true }
+        ensures found { IsErrOf result (Refused E10) →
+            IsRefusedByWork (log_at self.old key.now) work.now → ⊥ }
+        ensures unchanged_on_err { OnErr result (state_of self.new ≡ state_of self.old) }
+    {
+        self.check(key, work.submission())?;
+        let (content, snapshot) = (work.content()?, work.snapshot()?);
+        let rebased = RebaseResult {
+            content: clone_content(content)?,
+            document: clone_document(self.alloc, snapshot)?,
+        };
+        self.append(key, work.submission(), now, rebased)?;
+        Ok(())
+    }
+
+    // Decides and appends a submission, unless it is rejected, and returns clones of its missed
+    // entries.
+    fn append_now(
+        &mut self,
+        key: &Key,
+        submission: &Submission,
+        now: Moment,
+    ) -> Result<Vec<Entry>, Rejection>
+        ensures ok { OnOk result (StateAfterStore (plain_key key.now) submission.now now
+            (state_of self.old) (state_of self.new)) }
+        ensures missed { IfOk result
+            (λ v. v.items ≡ missed_entries (log_at self.old key.now) submission.now) }
+        ensures err { IfErr result
+            (IsRejectionOrOutOfMemory (log_at self.old key.now) submission.now now) }
+        ensures memory { IsErrOf result (Refused E10) →
+            decide_allocates (log_at self.old key.now) submission.now ≡ true }
+        ensures unchanged_on_err { OnErr result (state_of self.new ≡ state_of self.old) }
+    {
+        self.check(key, submission)?;
+        let rebased = self.rebase(key, submission)?;
+        let missed = self.clone_missed_entries(key, submission)?;
+        self.append(key, submission, now, rebased)?;
+        Ok(missed)
+    }
+
+    // Checks what needs no rebase: duplicate, full log, version too new.
+    fn check(&self, key: &Key, submission: &Submission) -> Result<(), Rejection>
+        ensures ok { OnOk result (CanStore (log_at self.now key.now) submission.now) }
+        ensures err { (t : ℕ) →
+            IfErr result (IsRejectedAs (log_at self.now key.now) submission.now t) }
+    {
+        match self.find(key) {
+            Some(document) => document.decided().check(submission),
+            None => DecidedLog::new(self.alloc).check(submission),
+        }
+    }
+
+    // Rebases the submission on the current log, and applies it to the current document.
+    fn rebase(&self, key: &Key, submission: &Submission) -> Result<RebaseResult, Code>
+        requires { CanStore (log_at self.now key.now) submission.now }
+        ensures ok { IfOk result (λ r. WillStore (log_at self.now key.now) submission.now
+            r.content (option_map value_of r.document)) }
+        ensures err { (t : ℕ) → IfErr result (λ code. IsRejectionOrOutOfMemory
+            (log_at self.now key.now) submission.now t (Refused code)) }
+        ensures memory { IsErrOf result E10 →
+            decide_allocates (log_at self.now key.now) submission.now ≡ true }
+    {
+        match self.find(key) {
+            Some(document) => document.decided().rebase(self.alloc, submission),
+            None => DecidedLog::new(self.alloc).rebase(self.alloc, submission),
+        }
+    }
+
+    // Returns clones of the submission's missed entries.
+    fn clone_missed_entries(
+        &self,
+        key: &Key,
+        submission: &Submission,
+    ) -> Result<Vec<Entry>, AllocError>
+        ensures { IfOk result
+            (λ v. v.items ≡ missed_entries (log_at self.now key.now) submission.now) }
+    {
+        match self.find(key) {
+            Some(document) => clone_entries(self.alloc, document.log().missed_entries(submission)),
+            None => Ok(Vec::new(self.alloc)),
+        }
+    }
+
+    // Appends a submission with its rebased content and the new value.
+    fn append(
+        &mut self,
+        key: &Key,
+        submission: &Submission,
+        now: Moment,
+        rebased: RebaseResult,
+    ) -> Result<(), AllocError>
+        requires { WillStore (log_at self.old key.now) submission.now rebased.content
+            (option_map value_of rebased.document) }
+        ensures ok { OnOk result (StateAfterStore (plain_key key.now) submission.now now
+            (state_of self.old) (state_of self.new)) }
+        ensures err { OnErr result (state_of self.new ≡ state_of self.old) }
+    {
+        let submission = submission.try_clone()?;
+        match self.slots.get_mut(key) {
+            Some(slot) => slot.append(self.alloc, submission, now, rebased),
+            None => self.append_first(key, submission, now, rebased),
+        }
+    }
+
+    // Appends the first submission of a key.
+    fn append_first(
+        &mut self,
+        key: &Key,
+        submission: Submission,
+        now: Moment,
+        rebased: RebaseResult,
+    ) -> Result<(), AllocError>
+        requires nothing { empty_slot ≡ slots_of self.old (plain_key key.now) }
+        requires will_store { WillStore [] submission rebased.content
+            (option_map value_of rebased.document) }
+        ensures ok { OnOk result (StateAfterStore (plain_key key.now) submission now
+            (state_of self.old) (state_of self.new)) }
+        ensures err { OnErr result (state_of self.new ≡ state_of self.old) }
+    {
+        let mut slot = DocumentSlot::new(self.alloc);
+        slot.append(self.alloc, submission, now, rebased)?;
+        self.insert_slot(key, slot)?;
+        Ok(())
+    }
+}
+
+// Clones a content, which may be absent.
+fn clone_content(content: Option<&Content>) -> Result<Option<Content>, AllocError>
+    ensures { IfOk result (λ c. c ≡ option_map (λ k. k.now) content.entry) }
+{
+    match content {
+        Some(content) => Ok(Some(content.try_clone()?)),
+        None => Ok(None),
+    }
+}
