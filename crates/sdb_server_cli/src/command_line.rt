@@ -28,28 +28,35 @@ const LOOPS_HELP: &str =
 const CLIENTS_HELP: &str = "With --listen, serve at most N clients at once; the default is 64";
 
 fn command<'a>(alloc: Global) -> Result<Command<'a>, AllocError> {
+    let command = Command::new(alloc, "sdb_server")
+        .about("A ShareDB server for JSON documents")
+        .version(VERSION)
+        .arg(lines_option(alloc))?
+        .arg(listen_option(alloc))?;
+    let command = with_end_options(alloc, command)?;
+    let command = with_serving_options(alloc, command)?;
+    let job = job_group(alloc)?;
+    command.arg(projection_option(alloc))?.group(job)
+}
+
+// Adds the options of when the server ends.
+fn with_end_options<'a>(alloc: Global, command: Command<'a>) -> Result<Command<'a>, AllocError> {
     let connections = number_option(alloc, "connections", CONNECTIONS_HELP, CONNECTION_LIMIT)?;
     let until_eof = until_eof_option(alloc)?;
     let dump = dump_option(alloc)?;
+    command.arg(connections)?.arg(until_eof)?.arg(dump)
+}
+
+// Adds the options of how clients are served.
+fn with_serving_options<'a>(
+    alloc: Global,
+    command: Command<'a>,
+) -> Result<Command<'a>, AllocError> {
     let log = log_option(alloc)?;
     let proxy = proxy_option(alloc)?;
     let loops = number_option(alloc, "loops", LOOPS_HELP, LOOP_LIMIT as u64)?;
     let clients = number_option(alloc, "clients", CLIENTS_HELP, LOOP_CLIENT_LIMIT as u64)?;
-    let job = job_group(alloc)?;
-    Command::new(alloc, "sdb_server")
-        .about("A ShareDB server for JSON documents")
-        .version(VERSION)
-        .arg(lines_option(alloc))?
-        .arg(listen_option(alloc))?
-        .arg(connections)?
-        .arg(until_eof)?
-        .arg(dump)?
-        .arg(log)?
-        .arg(proxy)?
-        .arg(loops)?
-        .arg(clients)?
-        .arg(projection_option(alloc))?
-        .group(job)
+    command.arg(log)?.arg(proxy)?.arg(loops)?.arg(clients)
 }
 
 fn lines_option<'a>(alloc: Global) -> Arg<'a> {

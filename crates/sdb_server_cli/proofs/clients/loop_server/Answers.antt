@@ -5,6 +5,7 @@ use Rattle.sdb_server_cli.proofs.clients.loop_server.Goals as goal
 pub returns : goal.returns
 returns g c = λ h is.
     let logged = subst (λ b. IsHostOfBackend h b) (sym c.with_log-logging.ensures) (c.in_ok-state.ensures h is) in
-    let limited = subst (λ b. IsHostOfBackend h b) (sym c.with_session_limit-limited.ensures) logged in
+    let proxied = subst (λ b. IsHostOfBackend h b) (sym c.with_proxy-proxied.ensures) logged in
+    let limited = subst (λ b. IsHostOfBackend h b) (sym c.with_session_limit-limited.ensures) proxied in
     let kept = subst (λ b. IsHostOfBackend h b) (sym c.with_passes_kept-keeping.ensures) limited in
     subst (λ s. IsHostOfBackend h s.backend) (sym c.in_ok-new.ensures.ok) kept

@@ -1,10 +1,18 @@
-use denote.Param.Send.{sendable}
+use denote.Param.Send.{IsSend, IsSync, sendable}
 use Rattle.std.proofs.Common.{sym, ap, ◌∙◌, subst}
 use Rattle.std.proofs.Crossing.{crosses}
+use Rattle.std.proofs.MapsCrossing as maps
+use Rattle.sdb_projection.specs.contracts.table.Table as Table
 use Rattle.sdb_backend.specs.PassModel.{IsHostOfBackend, IsPassOfBackend}
 use Rattle.sdb_growlock.specs.LockRule.{ForEach}
 use Rattle.sdb_event_loop.proofs.SendSync.{LoopServer-send, LoopServer-sync}
 use Rattle.sdb_server_cli.proofs.clients.serve_until_end.Goals as goal
+
+Table-send : IsSend Table.the_row
+Table-send = search (sendable, crosses, maps.crosses) depth 20
+
+Table-sync : IsSync Table.the_row
+Table-sync = search (sendable, crosses, maps.crosses) depth 20
 
 pub listen_on_loops-requires-after_bounds : goal.listen_on_loops-requires-after_bounds
 listen_on_loops-requires-after_bounds g c κs within = c.in_ok-state.ensures c.in_ok-backend.host c.in_ok-backend.ensures.host
@@ -14,7 +22,7 @@ spawn-requires-send-F g c κs within =
     let send = c.type_bounds.send-R in
     let sync = c.type_bounds.sync-R in
     let input = c.type_bounds.send-I in
-    search (LoopServer-send, LoopServer-sync, sendable, crosses) depth 40
+    search (LoopServer-send, LoopServer-sync, Table-send, Table-sync, sendable, crosses) depth 40
 
 pub close-requires-clause-host : goal.close-requires-clause-host
 close-requires-clause-host g c =
