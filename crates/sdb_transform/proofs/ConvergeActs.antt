@@ -1,14 +1,19 @@
 -- Acts at one container, applied in sequence, and two concurrent ones.
-use Rattle.std.proofs.Common.{◌≡◌, List, [], ◌∷◌, Option, Some, option_and_then, ap, ◌∙◌}
+use Rattle.std.proofs.Common.{◌≡◌, ◌+ℤ◌, List, [], ◌∷◌, Option, Some, option_and_then, ap, ◌∙◌}
 use Rattle.sdb_value.specs.Value.{Value}
-use Rattle.sdb_component.specs.Plain.{PlainAct}
-use Rattle.sdb_apply.specs.Apply.{apply_act}
+use Rattle.sdb_component.specs.Plain.{PlainAct, na}
+use Rattle.sdb_apply.specs.Apply.{map_number, apply_act}
 use Rattle.sdb_transform.specs.declared.side.Side.{Side}
 use Rattle.sdb_transform.specs.Transform.{transform_act}
 
 abbrev pub apply_acts : List PlainAct → Value → Option Value
 apply_acts [] u = Some u
 apply_acts (a ∷ rest) u = option_and_then (apply_acts rest) (apply_act a u)
+
+-- the act without the range of sums
+abbrev pub apply_unchecked : PlainAct → Value → Option Value
+apply_unchecked (na x) = map_number (λ n. Some (n +ℤ x))
+apply_unchecked x = apply_act x
 
 -- both orders make one value of u; s is the side of a, and t that of b
 pub record ActsConverge (s t : Side) (u : Value) (a b : PlainAct) : Type 0 where

@@ -1,7 +1,8 @@
 -- A component inside the container of another.
 use Rattle.std.proofs.Common.{◌≡◌, ℕ, zero, suc, ◌+◌, ◌<◌, ◌≤◌, List, [], ◌∷◌, Option, Some, None, option_and_then, Bool, true, false, ◌⊎◌, inl, inr, Ordering, Less, Equal, Greater, refl, sym, ap, ◌∙◌, subst, arith, true≢false}
+use Rattle.std.specs.Prelude.{⊤}
 use Rattle.sdb_value.specs.Value.{Value, null, truth, whole, text, list, object, Items, no_items, item, Members, no_members, member, PlainStep, key, index, item_count, item_at, set_item, member_at, set_member, texts_equal, put_member, without_member, child, with_child}
-use Rattle.sdb_value.specs.WellFormed.{IsWellFormed, IsKeyBelowAll, MembersWellFormed}
+use Rattle.sdb_value.specs.WellFormed.{IsWellFormed, IsKeyBelowAll}
 use Rattle.sdb_component.specs.Plain.{PlainAct, na, si, sd, li, ld, lr, oi, od, or}
 use Rattle.sdb_apply.specs.Apply.{apply_act}
 use Rattle.sdb_transform.specs.Transform.{strip_prefix, transform_step, removed_step, map_removed}
@@ -9,7 +10,7 @@ use Rattle.sdb_transform.specs.Convergence.{HasExpectedKey, StepStaysInRange, Is
 use Rattle.sdb_value.specs.laws.PathLaws.{set_item_set_item}
 use Rattle.sdb_value.proofs.DisjointLemmas.{item_other, item_exchange, equal_texts, same_itself, not_both}
 use Rattle.sdb_transform.proofs.ConvergeLists.{inserted_at, deleted_at, ins_set, set_ins, del_set, set_del, del_same, li_does, ld_does, lr_does, li_fits, ld_fits, lr_fits, count_set, le_true, lt_true, le_false, lt_false, eq_true, eq_false, le_or_lt, trichotomy, one_more, less_one}
-use Rattle.sdb_transform.proofs.ConvergeObjects.{compare_keys, order_same, below_all, same_turned}
+use Rattle.sdb_transform.proofs.ConvergeObjects.{compare_keys, order_same, below_all, same_turned, HasSortedKeys, sorted_of_formed}
 
 -- the rest of a path that begins with step t, inside the value that a removes
 abbrev pub lies_under : PlainAct → PlainStep → List PlainStep → Option (List PlainStep)
@@ -164,7 +165,7 @@ at_put_at Equal false k l m v d ms e f n below = simp (e, f)
 at_put_at Greater true k l m v d ms e f n below = simp (e, f)
 at_put_at Greater false k l m v d ms e f n below = simp (e, f) below
 
-at_put : (k l : List ℕ) (v : Value) (ms : Members) → texts_equal k l ≡ false → member_at l (put_member k v ms) ≡ member_at l ms
+pub at_put : (k l : List ℕ) (v : Value) (ms : Members) → texts_equal k l ≡ false → member_at l (put_member k v ms) ≡ member_at l ms
 at_put k l v no_members n = let g = same_turned k l n in simp g
 at_put k l v (member m d ms) n = at_put_at (compare_keys k m) (texts_equal l m) k l m v d ms refl refl n (at_put k l v ms n)
 
@@ -186,7 +187,7 @@ at_without_at true false k l m d ms e f n below = simp (e, f)
 at_without_at false true k l m d ms e f n below = simp (e, f)
 at_without_at false false k l m d ms e f n below = simp (e, f) below
 
-at_without : (k l : List ℕ) (ms : Members) → texts_equal k l ≡ false → member_at l (without_member k ms) ≡ member_at l ms
+pub at_without : (k l : List ℕ) (ms : Members) → texts_equal k l ≡ false → member_at l (without_member k ms) ≡ member_at l ms
 at_without k l no_members n = refl
 at_without k l (member m d ms) n = at_without_at (texts_equal k m) (texts_equal l m) k l m d ms refl refl n (at_without k l ms n)
 
@@ -210,9 +211,9 @@ put_written_at Less k m v w d ms e h below = simp e (ap (λ z. member k v (membe
 put_written_at Equal k m v w d ms e h below = simp e
 put_written_at Greater k m v w d ms e h below = simp e (ap (member m d) below)
 
-put_written : (k : List ℕ) (v w : Value) (ms : Members) → MembersWellFormed ms → put_member k v (set_member k ms w) ≡ put_member k v ms
+put_written : (k : List ℕ) (v w : Value) (ms : Members) → HasSortedKeys ms → put_member k v (set_member k ms w) ≡ put_member k v ms
 put_written k v w no_members h = refl
-put_written k v w (member m d ms) h = put_written_at (compare_keys k m) k m v w d ms refl h.2 (put_written k v w ms h.3)
+put_written k v w (member m d ms) h = put_written_at (compare_keys k m) k m v w d ms refl h.0 (put_written k v w ms h.1)
 
 member_at_absent : (b : Bool) (k l : List ℕ) (c : Value) (ms : Members) → texts_equal k l ≡ b → member_at k ms ≡ None → member_at l ms ≡ Some c → b ≡ false
 member_at_absent false k l c ms e f g = refl
@@ -246,7 +247,7 @@ under_od false k l x c ms f e =
       carries = λ v. ap (λ z. Some (object z)) (without_set k l v ms f);
     })
 
-under_or : (b : Bool) (k l : List ℕ) (x y c : Value) (ms : Members) → MembersWellFormed ms → texts_equal k l ≡ b → member_at l ms ≡ Some c → ShiftsOrDrops (or k x y) (key l) (object ms) (object (put_member k y ms)) c
+under_or : (b : Bool) (k l : List ℕ) (x y c : Value) (ms : Members) → HasSortedKeys ms → texts_equal k l ≡ b → member_at l ms ≡ Some c → ShiftsOrDrops (or k x y) (key l) (object ms) (object (put_member k y ms)) c
 under_or true k l x y c ms wf f e =
     subst (λ l. ShiftsOrDrops (or k x y) (key l) (object ms) (object (put_member k y ms)) c) (equal_texts k l f)
     (inr (record {
@@ -265,13 +266,26 @@ under_or false k l x y c ms wf f e =
 
 -- ---- all acts
 
+-- the keys are sorted, if it is an object
+abbrev pub IsSortedHere : Value → Type 0
+IsSortedHere (object ms) = HasSortedKeys ms
+IsSortedHere _ = ⊤
+
+pub sorted_here : (u : Value) → IsWellFormed u → IsSortedHere u
+sorted_here (object ms) h = sorted_of_formed ms h
+sorted_here null h = tt
+sorted_here (truth b) h = tt
+sorted_here (whole n) h = tt
+sorted_here (text t) h = tt
+sorted_here (list ds) h = tt
+
 same_some : {X : Type 0} (a b : X) → Some a ≡ Some b → a ≡ b
 same_some a b e = cc
 
 to_result : (a : PlainAct) (t : PlainStep) (u v u1 c : Value) → Some v ≡ Some u1 → ShiftsOrDrops a t u v c → ShiftsOrDrops a t u u1 c
 to_result a t u v u1 c e h = subst (λ x. ShiftsOrDrops a t u x c) (same_some v u1 e) h
 
-pub shifts_or_drops : (a : PlainAct) (t : PlainStep) (u u1 c : Value) → IsWellFormed u → HasExpectedKey a u → StepStaysInRange a t → apply_act a u ≡ Some u1 → child t u ≡ Some c → ShiftsOrDrops a t u u1 c
+pub shifts_or_drops : (a : PlainAct) (t : PlainStep) (u u1 c : Value) → IsSortedHere u → HasExpectedKey a u → StepStaysInRange a t → apply_act a u ≡ Some u1 → child t u ≡ Some c → ShiftsOrDrops a t u u1 c
 shifts_or_drops (li i x) (index j) (list ds) u1 c wf md m h e =
     let f = li_fits i x ds u1 h in to_result (li i x) (index j) (list ds) (list (inserted_at i x ds)) u1 c (sym (li_does i x ds f) ∙ h) (under_li i j x c ds f e m)
 shifts_or_drops (ld i x) (index j) (list ds) u1 c wf md m h e =

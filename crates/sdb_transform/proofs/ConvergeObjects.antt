@@ -1,5 +1,6 @@
 -- Concurrent acts at one object.
 use Rattle.std.proofs.Common.{◌≡◌, ℕ, List, [], ◌∷◌, Option, Some, None, Bool, true, false, Ordering, Less, Equal, Greater, is_eq, nat_cmp, IsSome, refl, sym, ap, ◌∙◌, subst, true≢false}
+use Rattle.std.specs.Prelude.{⊤}
 use Rattle.std.specs.Cmp.Lexicographic.{slice_cmp}
 use Rattle.std.specs.Ordering.{ordering_reverse}
 use Rattle.std.proofs.lemmas.Cmp.{nat_list_cmp_total, tied_itself}
@@ -41,6 +42,15 @@ compare_not_equal k l h e = true≢false (sym (ap is_eq e) ∙ h)
 pub below_all : (k l : List ℕ) (ms : Members) → compare_keys k l ≡ Less → IsKeyBelowAll l ms → IsKeyBelowAll k ms
 below_all k l no_members e h = tt
 below_all k l (member n d ms) e h = (nat_list_cmp_total.trans k l n e h.0, below_all k l ms e h.1)
+
+-- the keys are sorted and unique
+abbrev pub HasSortedKeys : Members → Type 0
+HasSortedKeys no_members = ⊤
+HasSortedKeys (member k d ms) = IsKeyBelowAll k ms × HasSortedKeys ms
+
+pub sorted_of_formed : (ms : Members) → MembersWellFormed ms → HasSortedKeys ms
+sorted_of_formed no_members h = tt
+sorted_of_formed (member k d ms) h = (h.2, sorted_of_formed ms h.3)
 
 -- ---- a key set twice, or less than all others
 
@@ -123,9 +133,9 @@ put_without_at Greater Less k l m u d ms e f n h below = simp (e, f) (ap (member
 put_without_at Greater Equal k l m u d ms e f n h below = simp (e, f)
 put_without_at Greater Greater k l m u d ms e f n h below = simp (e, f) (ap (member m d) below)
 
-pub put_without : (k l : List ℕ) (u : Value) (ms : Members) → MembersWellFormed ms → texts_equal k l ≡ false → without_member l (put_member k u ms) ≡ put_member k u (without_member l ms)
+pub put_without : (k l : List ℕ) (u : Value) (ms : Members) → HasSortedKeys ms → texts_equal k l ≡ false → without_member l (put_member k u ms) ≡ put_member k u (without_member l ms)
 put_without k l u no_members w n = let g = same_turned k l n in simp g
-put_without k l u (member m d ms) w n = put_without_at (compare_keys k m) (compare_keys l m) k l m u d ms refl refl n w.2 (put_without k l u ms w.3 n)
+put_without k l u (member m d ms) w n = put_without_at (compare_keys k m) (compare_keys l m) k l m u d ms refl refl n w.0 (put_without k l u ms w.1 n)
 
 -- a key that is removed and set again
 put_back_at : (o : Ordering) (k m : List ℕ) (u d : Value) (ms : Members) → compare_keys k m ≡ o → IsKeyBelowAll m ms → put_member k u (without_member k ms) ≡ put_member k u ms
@@ -136,13 +146,13 @@ put_back_at Equal k m u d ms e h below =
     simp e (put_below k u ms (subst (λ k. IsKeyBelowAll k ms) (sym s) h) ∙ ap (λ l. member l u ms) s)
 put_back_at Greater k m u d ms e h below = simp e (ap (member m d) below)
 
-pub put_back : (k : List ℕ) (u : Value) (ms : Members) → MembersWellFormed ms → put_member k u (without_member k ms) ≡ put_member k u ms
+pub put_back : (k : List ℕ) (u : Value) (ms : Members) → HasSortedKeys ms → put_member k u (without_member k ms) ≡ put_member k u ms
 put_back k u no_members w = refl
-put_back k u (member m d ms) w = put_back_at (compare_keys k m) k m u d ms refl w.2 (put_back k u ms w.3)
+put_back k u (member m d ms) w = put_back_at (compare_keys k m) k m u d ms refl w.0 (put_back k u ms w.1)
 
 -- ---- pairs of acts
 
-not_there : {G : Type 0} (k l : List ℕ) (ms : Members) → texts_equal k l ≡ true → member_at k ms ≡ None → IsSome (member_at l ms) → G
+pub not_there : {G : Type 0} (k l : List ℕ) (ms : Members) → texts_equal k l ≡ true → member_at k ms ≡ None → IsSome (member_at l ms) → G
 not_there k l ms s a b = absurd (none_not_some (member_at l ms) (ap (λ x. member_at x ms) (sym (equal_texts k l s)) ∙ a) b)
   where
     none_not_some : (o : Option Value) → o ≡ None → IsSome o → ⊥
@@ -201,13 +211,13 @@ or_or true k l x v w z ms e =
     (puts_same (or k x v) (or k w z) k v z ms (λ _. refl) (λ _. refl) (rw (same_itself k)) (rw (same_itself k)))
 or_or false k l x v w z ms e = puts_other (or k x v) (or l w z) k l v z ms (λ _. refl) (λ _. refl) e (rw (same_turned k l e)) (rw e)
 
-oi_od : (s t : Side) (c : Bool) (k l : List ℕ) (v w : Value) (ms : Members) → MembersWellFormed ms → texts_equal k l ≡ c → member_at k ms ≡ None → IsSome (member_at l ms)
+oi_od : (s t : Side) (c : Bool) (k l : List ℕ) (v w : Value) (ms : Members) → HasSortedKeys ms → texts_equal k l ≡ c → member_at k ms ≡ None → IsSome (member_at l ms)
     → ActsConverge s t (object ms) (oi k v) (od l w)
 oi_od s t true k l v w ms wf e a b = not_there k l ms e a b
 oi_od s t false k l v w ms wf e a b =
     converge_unchanged s t (oi k v) (od l w) (object ms) (object (put_member k v (without_member l ms))) refl refl (ap (λ x. Some (object x)) (put_without k l v ms wf e)) refl
 
-or_od : (s t : Side) (c : Bool) (k l : List ℕ) (x v w : Value) (ms : Members) → MembersWellFormed ms → texts_equal k l ≡ c → ActsConverge s t (object ms) (or k x v) (od l w)
+or_od : (s t : Side) (c : Bool) (k l : List ℕ) (x v w : Value) (ms : Members) → HasSortedKeys ms → texts_equal k l ≡ c → ActsConverge s t (object ms) (or k x v) (od l w)
 or_od s t true k l x v w ms wf e =
     subst (λ l. ActsConverge s t (object ms) (or k x v) (od l w)) (equal_texts k l e)
     (record {
@@ -231,7 +241,7 @@ od_od s t false k l x w ms e =
 
 -- ---- all acts at one object
 
-pub objects_meet : (ms : Members) (a b : PlainAct) (u v : Value) → MembersWellFormed ms → HasExpectedKey a (object ms) → HasExpectedKey b (object ms) → apply_act a (object ms) ≡ Some u → apply_act b (object ms) ≡ Some v
+pub objects_meet : (ms : Members) (a b : PlainAct) (u v : Value) → HasSortedKeys ms → HasExpectedKey a (object ms) → HasExpectedKey b (object ms) → apply_act a (object ms) ≡ Some u → apply_act b (object ms) ≡ Some v
     → ActsConverge Left Right (object ms) a b
 objects_meet ms (oi k x) (oi l z) u v wf f g h i = oi_oi (texts_equal k l) k l x z ms refl
 objects_meet ms (oi k x) (or l z w) u v wf f g h i = oi_or (texts_equal k l) k l x z w ms refl

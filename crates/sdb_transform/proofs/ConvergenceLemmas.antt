@@ -20,9 +20,9 @@ use Rattle.sdb_transform.proofs.PrefixLemmas.{behind_is}
 use Rattle.sdb_transform.proofs.ConvergeActs.{apply_acts, ActsConverge}
 use Rattle.sdb_transform.proofs.ConvergeLists.{lists_meet}
 use Rattle.sdb_transform.proofs.ConvergeTexts.{texts_meet}
-use Rattle.sdb_transform.proofs.ConvergeObjects.{objects_meet}
+use Rattle.sdb_transform.proofs.ConvergeObjects.{objects_meet, sorted_of_formed}
 use Rattle.sdb_transform.proofs.ConvergeNumbers.{numbers_meet}
-use Rattle.sdb_transform.proofs.ConvergeBelow.{ShiftsStep, DropsStep, shifts_or_drops}
+use Rattle.sdb_transform.proofs.ConvergeBelow.{ShiftsStep, DropsStep, shifts_or_drops, sorted_here}
 
 -- ---- two equal results
 
@@ -163,7 +163,7 @@ onto_all side p q r x y (Some []) u = onto_acts p q (transform_act side x y)
 onto_all side p q r x y (Some (w ∷ rest)) u = onto_moved p q r rest x y (transform_step y w)
 
 -- the transform of two components is that of their rests after the prefix
-transform_under : (side : Side) (p q r : List PlainStep) (x y : PlainAct)
+pub transform_under : (side : Side) (p q r : List PlainStep) (x y : PlainAct)
     → transform side (component_at (p ++ q) x) (component_at (p ++ r) y) ≡ option_map (map (with_path_prefix p)) (transform side (component_at q x) (component_at r y))
 transform_under side p q r x y =
     ap (λ l. option_map_or (transform_below side (component_at (p ++ q) x) (component_at (p ++ r) y)) l (Some (update_removed (component_at (p ++ q) x) (component_at (p ++ r) y) (strip_removed_path (component_at (p ++ q) x) (p ++ r))))) (after_under p r q)
@@ -220,7 +220,7 @@ under_none : (o : Option PlainStep) → option_and_then (λ s. option_and_then (
 under_none None = refl
 under_none (Some s) = refl
 
-stays_apart : (side : Side) (a b : PlainComponent) → AreDisjointPaths a.path b.path → transform side a b ≡ Some (a ∷ [])
+pub stays_apart : (side : Side) (a b : PlainComponent) → AreDisjointPaths a.path b.path → transform side a b ≡ Some (a ∷ [])
 stays_apart side a b h =
     ap (λ r. option_map_or (transform_below side a b) r (Some (update_removed a b (strip_removed_path a b.path)))) (prefix_apart b.path a.path (strip_prefix b.path a.path) refl h.not_extension)
     ∙ ap (λ r. Some (update_removed a b r)) (ap (λ r. option_and_then (λ s. option_and_then (strip_prefix (s ∷ [])) r) (removed_step a.act)) (prefix_apart a.path b.path (strip_prefix a.path b.path) refl h.not_prefix) ∙ under_none (removed_step a.act))
@@ -288,12 +288,12 @@ under_here : (s t : Side) (x y : PlainAct) (w : PlainStep) (q : List PlainStep) 
     → Converges s t d (component_at [] x) (component_at (w ∷ q) y)
 under_here s t x y w q d u wf a is b m =
     let c = step_there (child w d) q u is in
-    elim (shifts_or_drops x w d a.after c.0 wf a.key m a.changed c.1) [
+    elim (shifts_or_drops x w d a.after c.0 (sorted_here d wf) a.key m a.changed c.1) [
       | inl h ↦ under_shifts s t x y w q d a.after c.0 u b.after a.changed c.1 c.2 b.changed h
       | inr h ↦ under_drops s t x y w q d a.after c.0 u b.after a.changed c.1 c.2 b.changed h
     ]
 
-step_fits : (side : Side) (c o : PlainComponent) (s : PlainStep) (rest : List PlainStep) → strip_prefix o.path c.path ≡ Some (s ∷ rest) → StaysInRange side c o → StepStaysInRange o.act s
+pub step_fits : (side : Side) (c o : PlainComponent) (s : PlainStep) (rest : List PlainStep) → strip_prefix o.path c.path ≡ Some (s ∷ rest) → StaysInRange side c o → StepStaysInRange o.act s
 step_fits side c o s rest e f = subst (SuffixStaysInRange side c o) e f
 
 -- the first at p, the second inside p
@@ -345,7 +345,7 @@ pub record BothApply (x y : PlainAct) (u : Value) : Type 0 where
   pub a_fits : ActStaysInRange Left x y
   pub b_fits : ActStaysInRange Right y x
 
-act_fits : (side : Side) (p : List PlainStep) (x y : PlainAct) → StaysInRange side (component_at p x) (component_at p y) → ActStaysInRange side x y
+pub act_fits : (side : Side) (p : List PlainStep) (x y : PlainAct) → StaysInRange side (component_at p x) (component_at p y) → ActStaysInRange side x y
 act_fits side p x y f =
     subst (SuffixStaysInRange side (component_at p x) (component_at p y)) (ap (strip_prefix p) (sym (append-nil p)) ∙ after_rest p []) f
 
@@ -376,7 +376,7 @@ lists_agree d a b items m e is =
 pub objects_agree : (d : Value) (a b : PlainComponent) (members : Members) → ConcurrentPair Left Right d a b → a.path ≡ b.path → value_at d a.path ≡ Some (object members) → Converges Left Right d a b
 objects_agree d a b members m e is =
     agrees_at d (object members) a b m e is
-    (λ h. objects_meet members a.act b.act h.a.after h.b.after h.formed h.a.key h.b.key h.a.changed h.b.changed)
+    (λ h. objects_meet members a.act b.act h.a.after h.b.after (sorted_of_formed members h.formed) h.a.key h.b.key h.a.changed h.b.changed)
 
 pub texts_agree : (d : Value) (a b : PlainComponent) (bytes : List ℕ) → ConcurrentPair Left Right d a b → a.path ≡ b.path → value_at d a.path ≡ Some (text bytes) → Converges Left Right d a b
 texts_agree d a b bytes m e is =
@@ -474,7 +474,7 @@ pub record PathExtends (p q : List PlainStep) : Type 0 where
   pub rest : List PlainStep
   pub is : q ≡ p ++ step ∷ rest
 
-abbrev PathRelation : List PlainStep → List PlainStep → Type 0
+abbrev pub PathRelation : List PlainStep → List PlainStep → Type 0
 PathRelation p q = AreDisjointPaths p q ⊎ ((p ≡ q) ⊎ (PathExtends p q ⊎ PathExtends q p))
 
 further_below : (s : PlainStep) (p q : List PlainStep) → PathExtends p q → PathExtends (s ∷ p) (s ∷ q)
@@ -499,7 +499,7 @@ paths_at false s t p q e transform_below = inl (record {
   not_extension = λ r f. other_steps s t p (q ++ r) e (sym f);
 })
 
-path_relation : (p q : List PlainStep) → PathRelation p q
+pub path_relation : (p q : List PlainStep) → PathRelation p q
 path_relation [] [] = inr (inl refl)
 path_relation [] (t ∷ q) = inr (inr (inl (record { step = t; rest = q; is = refl })))
 path_relation (s ∷ p) [] = inr (inr (inr (record { step = s; rest = p; is = refl })))

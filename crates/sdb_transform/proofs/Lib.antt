@@ -18,3 +18,9 @@ pub mod CrossRun
 pub mod StackLemmas
 pub mod WeightLemmas
 pub mod CrossWeight
+pub mod FormedValues
+pub mod OperationRuns
+pub mod ValidParts
+pub mod ExpectedKeys
+pub mod PairRuns
+pub mod OperationLemmas

@@ -3,6 +3,7 @@ pub mod Cross
 pub mod CrossLaws
 pub mod Convergence
 pub mod ConvergenceLaws
+pub mod OperationConvergence
 pub mod Classification
 pub mod CrossStack
 pub mod Transform
