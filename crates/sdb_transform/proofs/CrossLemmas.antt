@@ -94,7 +94,7 @@ module _ {C : Type 0} {tl tr : TransformTable C} {weigh : C → ℕ} (ok : IsWei
         pairs_within_product = product_bound (weigh l) (sum_weight weigh L) (weigh r) (sum_weight weigh R) (sum_weight weigh l1) (sum_weight weigh r1) (sum_weight weigh v.left) (sum_weight weigh u.right) u.pairs v.pairs w.pairs p1 p2 h1 h2 b1 a2 a.pairs_within_product b.pairs_within_product c.pairs_within_product;
       })
 
-  cross_within_weight : (n : ℕ) (L R : List C) (x : Crossing C) → cross_in tl tr n L R ≡ Some x → IsWithinWeight weigh L R x
+  pub cross_within_weight : (n : ℕ) (L R : List C) (x : Crossing C) → cross_in tl tr n L R ≡ Some x → IsWithinWeight weigh L R x
   unfolding cross_in
   cross_within_weight n [] R x e =
       let q : record { left = []; right = R; pairs = 0 } ≡ x = some_same _ _ e in

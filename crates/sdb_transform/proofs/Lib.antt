@@ -24,3 +24,5 @@ pub mod ValidParts
 pub mod ExpectedKeys
 pub mod PairRuns
 pub mod OperationLemmas
+pub mod RaisedPositions
+pub mod CrossingExistence

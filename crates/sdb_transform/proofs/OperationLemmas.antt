@@ -30,7 +30,7 @@ joined_runs c e f u v w a b r = record {
   right_run = run_append v.right w.right e b.result r.result b.right_run r.right_run;
 }
 
-cross_runs : (n : ℕ) (L R : List PlainComponent) (x : Crossing PlainComponent) → cross_in (transform Left) (transform Right) n L R ≡ Some x → (d e f : Value) → IsFormed d → OperationRun L d e → OperationRun R d f → CrossingRuns e f x
+pub cross_runs : (n : ℕ) (L R : List PlainComponent) (x : Crossing PlainComponent) → cross_in (transform Left) (transform Right) n L R ≡ Some x → (d e f : Value) → IsFormed d → OperationRun L d e → OperationRun R d f → CrossingRuns e f x
 unfolding cross_in
 cross_runs n [] R x h d e f wf a b =
     let is : record { left = []; right = R; pairs = 0 } ≡ x = some_same _ _ h in

@@ -1,11 +1,12 @@
 -- Convergence of concurrent operations (TP1): both orders make one value.
-use Rattle.std.specs.Prelude.{◌≡◌, ℤ, ◌+ℤ◌, List, [], ◌∷◌, ◌++◌, Some, None, ◌⊎◌, ⊤}
-use Rattle.sdb_value.specs.Value.{Value, whole, value_at}
+use Rattle.std.specs.Prelude.{◌≡◌, ℕ, ◌+◌, max, ℤ, ◌+ℤ◌, List, [], ◌∷◌, ◌++◌, Some, None, ◌⊎◌, ⊤}
+use Rattle.sdb_value.specs.Value.{Value, whole, PlainStep, key, index, value_at}
 use Rattle.sdb_value.specs.WellFormed.{IsWellFormed}
 use Rattle.sdb_value.specs.FromJson.{checked_whole}
-use Rattle.sdb_component.specs.Plain.{PlainAct, na, li, lr, oi, or, PlainComponent}
+use Rattle.sdb_rope.specs.Utf16.{units}
+use Rattle.sdb_component.specs.Plain.{PlainAct, na, si, sd, li, ld, lr, oi, or, PlainComponent}
 use Rattle.sdb_apply.specs.Apply.{apply}
-use Rattle.sdb_transform.specs.Convergence.{WellMade, HasValidTexts}
+use Rattle.sdb_transform.specs.Convergence.{WellMade, HasValidTexts, IsSafeInteger}
 use Rattle.sdb_transform.specs.Cross.{Crossing, cross_ops}
 
 -- ---- operations made for a value
@@ -74,3 +75,48 @@ abbrev pub AllOperationsConverge : Type 0
 AllOperationsConverge =
     (d : Value) (L R : List PlainComponent) (x : Crossing PlainComponent) → IsWellFormed d → AreMadeFor L d → AreMadeFor R d
     → cross_ops L R ≡ Some x → OperationsConverge d L R x
+
+-- ---- crossings that exist
+
+-- the index of a step, and the offset or index of an act; 0 for a key, and without one
+abbrev pub step_position : PlainStep → ℕ
+step_position (index i) = i
+step_position (key k) = 0
+
+abbrev pub act_position : PlainAct → ℕ
+act_position (si p s) = p
+act_position (sd p d) = p
+act_position (li i v) = i
+act_position (ld i x) = i
+act_position (lr i x y) = i
+act_position _ = 0
+
+abbrev pub highest_index : List PlainStep → ℕ
+highest_index [] = 0
+highest_index (s ∷ p) = max (step_position s) (highest_index p)
+
+-- the highest offset or index of the components and of their paths
+abbrev pub highest_position : List PlainComponent → ℕ
+highest_position [] = 0
+highest_position (c ∷ cs) = max (max (highest_index c.path) (act_position c.act)) (highest_position cs)
+
+-- by how much the act may raise a position: the code units of its text, or one item, since an lr may become an li
+abbrev pub inserted_size : PlainAct → ℕ
+inserted_size (si p s) = units s
+inserted_size (li i v) = 1
+inserted_size (lr i x y) = 1
+inserted_size _ = 0
+
+abbrev pub total_inserted_size : List PlainComponent → ℕ
+total_inserted_size [] = 0
+total_inserted_size (c ∷ cs) = inserted_size c.act + total_inserted_size cs
+
+-- no position of the components exceeds the maximum, even if all inserts of the others raise it
+abbrev pub AllStayInRange : List PlainComponent → List PlainComponent → Type 0
+AllStayInRange cs others = IsSafeInteger (highest_position cs + total_inserted_size others)
+
+-- two operations made for one value can be transformed, if no position can leave the range
+abbrev pub CrossingExists : Type 0
+CrossingExists =
+    (d : Value) (L R : List PlainComponent) → IsWellFormed d → AreMadeFor L d → AreMadeFor R d
+    → AllStayInRange L R → AllStayInRange R L → (x : Crossing PlainComponent) × (cross_ops L R ≡ Some x)

@@ -5,7 +5,7 @@ ghost use Rattle.sdb_value.specs.View.{value_of};
 ghost use Rattle.sdb_transform.specs.CrossLaws.{WeightNotIncreased, LeftEmpty, RightEmpty, PairRule, PairsWithinProduct, NoSideHeavier};
 ghost use Rattle.sdb_transform.specs.Convergence.{WellMade, HasValidTexts, StaysInRange, ConvergesOrOverflows};
 ghost use Rattle.sdb_transform.specs.ConvergenceLaws.{DisjointConverge, BelowConverge, ListsConverge, ObjectsConverge, TextsConverge, NumbersConverge, AllConverge, InRangeWhereWellMade, RemovedValueIsCurrent};
-ghost use Rattle.sdb_transform.specs.OperationConvergence.{AllOperationsConverge};
+ghost use Rattle.sdb_transform.specs.OperationConvergence.{AllOperationsConverge, CrossingExists};
 ghost use Rattle.sdb_transform.specs.declared.side.Side.TheVariants.{Left, Right};
 
 use sdb_component::{Act, Component};
@@ -92,11 +92,17 @@ pub fn removed_value_is_current()
     ensures { RemovedValueIsCurrent }
 {}
 
-/// States convergence of two concurrent operations of any length, if their transforms exist. Each
+/// States convergence of two concurrent operations of any length, if their crossing exists. Each
 /// transformed operation is made for the other one's result, and both orders make one value. Or a
 /// sum leaves the range in one of the orders.
 pub fn operations_converge()
     ensures { AllOperationsConverge }
+{}
+
+/// States that the crossing of two concurrent operations exists, if no index or offset exceeds
+/// 9007199254740991 even when all inserts of the other operation raise it.
+pub fn crossing_exists()
+    ensures { CrossingExists }
 {}
 
 fn has_texts(component: &Component)
