@@ -10,8 +10,8 @@ use Rattle.sdb_apply.specs.Apply.{apply_act, apply_one, apply}
 use Rattle.sdb_apply.specs.ApplyLaws.{with_path_prefix}
 use Rattle.sdb_apply.proofs.ChangeLemmas.{has_effect, does_is}
 use Rattle.sdb_transform.specs.Transform.{component_at}
-use Rattle.sdb_transform.specs.Convergence.{HasExpectedKey, HasValidTexts}
-use Rattle.sdb_transform.specs.OperationConvergence.{InsertsWellFormedValue, IsMadeFor, AreMadeFor, SomeSumLeavesRange}
+use Rattle.sdb_transform.specs.Convergence.{HasExpectedKey, HasValidTexts, WellMade}
+use Rattle.sdb_transform.specs.OperationConvergence.{InsertsWellFormedValue, HasValidParts, HaveValidParts, AreWellMade, AreMadeFor, SomeSumLeavesRange}
 use Rattle.sdb_transform.proofs.ConvergeActs.{apply_unchecked}
 use Rattle.sdb_transform.proofs.FormedValues.{IsFormed, value_formed, written_formed, applied_formed}
 
@@ -124,16 +124,15 @@ checked_of (or k y z) u v e = inl e
 same_value : (a b : Value) → Some a ≡ Some b → a ≡ b
 same_value a b e = cc
 
-run_of_made : (c : PlainComponent) (d : Value) (m : IsMadeFor c d) → ComponentRun c d m.made.result
-run_of_made c d m =
-    let w = m.made in
+run_of_made : (c : PlainComponent) (d : Value) (w : WellMade c d) → HasValidParts c.act → ComponentRun c d w.result
+run_of_made c d w p =
     let goes = sym (ap (option_and_then (λ u. option_map (with_value_at d c.path) (apply_act c.act u))) w.found) ∙ w.accepted in
     let e = has_effect (apply_act c.act w.position) (with_value_at d c.path) w.result goes in
     record {
       before = w.position;
       after = e.0;
       found = w.found;
-      act = record { changed = unchecked_of c.act w.position e.0 e.1; key = w.key; texts = m.texts; inserts = m.inserts };
+      act = record { changed = unchecked_of c.act w.position e.0 e.1; key = w.key; texts = p.0; inserts = p.1 };
       written = same_value (with_value_at d c.path e.0) w.result (sym (ap (option_map (with_value_at d c.path)) e.1) ∙ goes);
     }
 
@@ -143,12 +142,15 @@ pub record MadeRun (cs : List PlainComponent) (d : Value) : Type 0 where
   pub applied : apply cs d ≡ Some result
   pub run : OperationRun cs d result
 
+run_of_parts : (cs : List PlainComponent) (d : Value) → AreWellMade cs d → HaveValidParts cs → MadeRun cs d
+run_of_parts [] d h p = record { result = d; applied = refl; run = refl }
+run_of_parts (c ∷ cs) d h p =
+    let f = h.0.result in
+    let r = run_of_parts cs f h.1 p.1 in
+    record { result = r.result; applied = ap (option_and_then (apply cs)) h.0.accepted ∙ r.applied; run = (f, run_of_made c d h.0 p.0, r.run) }
+
 pub run_of : (cs : List PlainComponent) (d : Value) → AreMadeFor cs d → MadeRun cs d
-run_of [] d h = record { result = d; applied = refl; run = refl }
-run_of (c ∷ cs) d h =
-    let f = h.0.made.result in
-    let r = run_of cs f h.1 in
-    record { result = r.result; applied = ap (option_and_then (apply cs)) h.0.made.accepted ∙ r.applied; run = (f, run_of_made c d h.0, r.run) }
+run_of cs d h = run_of_parts cs d h.0 h.1
 
 -- ---- back to the range: made for d, or a sum leaves the range
 
@@ -156,12 +158,8 @@ pub record MadeResult (cs : List PlainComponent) (d e : Value) : Type 0 where
   pub made : AreMadeFor cs d
   pub applied : apply cs d ≡ Some e
 
-abbrev made_here : (c : PlainComponent) (d e : Value) (r : ComponentRun c d e) → apply_act c.act r.before ≡ Some r.after → IsMadeFor c d
-made_here c d e r h = record {
-  made = record { position = r.before; result = e; found = r.found; accepted = does_is c d r.before r.after r.found h ∙ ap Some r.written; key = r.act.key };
-  texts = r.act.texts;
-  inserts = r.act.inserts;
-}
+abbrev made_here : (c : PlainComponent) (d e : Value) (r : ComponentRun c d e) → apply_act c.act r.before ≡ Some r.after → WellMade c d
+made_here c d e r h = record { position = r.before; result = e; found = r.found; accepted = does_is c d r.before r.after r.found h ∙ ap Some r.written; key = r.act.key }
 
 overflow_here : (c : PlainComponent) (cs : List PlainComponent) (d e : Value) (r : ComponentRun c d e) → ActOverflows c.act r.before → SomeSumLeavesRange (c ∷ cs) d
 overflow_here c cs d e r h = record {
@@ -191,7 +189,7 @@ MadeOrOverflows cs d e = MadeResult cs d e ⊎ SomeSumLeavesRange cs d
 then_made : (c : PlainComponent) (cs : List PlainComponent) (d f e : Value) (r : ComponentRun c d f) → apply_act c.act r.before ≡ Some r.after → MadeOrOverflows cs f e → MadeOrOverflows (c ∷ cs) d e
 then_made c cs d f e r h (inl m) =
     let accepted = does_is c d r.before r.after r.found h ∙ ap Some r.written in
-    inl (record { made = (made_here c d f r h, m.made); applied = ap (option_and_then (apply cs)) accepted ∙ m.applied })
+    inl (record { made = ((made_here c d f r h, m.made.0), ((r.act.texts, r.act.inserts), m.made.1)); applied = ap (option_and_then (apply cs)) accepted ∙ m.applied })
 then_made c cs d f e r h (inr o) = inr (overflow_later c cs d f (does_is c d r.before r.after r.found h ∙ ap Some r.written) o)
 
 at_component : (c : PlainComponent) (cs : List PlainComponent) (d f e : Value) (r : ComponentRun c d f) → MadeOrOverflows cs f e
@@ -200,5 +198,5 @@ at_component c cs d f e r below (inl k) = then_made c cs d f e r k below
 at_component c cs d f e r below (inr o) = inr (overflow_here c cs d f r o)
 
 pub made_or_overflows : (cs : List PlainComponent) (d e : Value) → OperationRun cs d e → MadeOrOverflows cs d e
-made_or_overflows [] d e h = inl (record { made = tt; applied = ap Some h })
+made_or_overflows [] d e h = inl (record { made = (tt, tt); applied = ap Some h })
 made_or_overflows (c ∷ cs) d e h = at_component c cs d h.0 e h.1 (made_or_overflows cs h.0 e h.2) (checked_of c.act h.1.before h.1.after h.1.act.changed)

@@ -12,6 +12,7 @@ use Rattle.sdb_transform.specs.declared.side.Side.{Side}
 use Rattle.sdb_transform.specs.declared.side.Side.TheVariants.{Left, Right}
 use Rattle.sdb_transform.specs.Transform.{transform_act, map_removed, updated_value, component_at, transform, with_moved_step, update_removed}
 use Rattle.sdb_transform.specs.Convergence.{ActStaysInRange, StepStaysInRange, StaysInRange}
+use Rattle.sdb_transform.specs.OperationConvergence.{HasValidParts}
 use Rattle.sdb_transform.proofs.ConvergeActs.{apply_acts, apply_unchecked, ActsConverge}
 use Rattle.sdb_transform.proofs.ConvergeLists.{lists_meet}
 use Rattle.sdb_transform.proofs.ConvergeTexts.{texts_meet}
@@ -20,7 +21,7 @@ use Rattle.sdb_transform.proofs.ConvergeBelow.{ShiftsStep, DropsStep, shifts_or_
 use Rattle.sdb_transform.proofs.ConvergenceLemmas.{transform_under, stays_apart, step_fits, act_fits, after_rest, PathRelation, path_relation}
 use Rattle.sdb_transform.proofs.FormedValues.{IsFormed, sorted_of_value, value_formed}
 use Rattle.sdb_transform.proofs.OperationRuns.{ActRun, ComponentRun, ActsRun, OperationRun, acts_at_root, run_under, unchecked_of}
-use Rattle.sdb_transform.proofs.ValidParts.{HasValidParts, transformed_parts, updated_parts}
+use Rattle.sdb_transform.proofs.ValidParts.{transformed_parts, updated_parts}
 use Rattle.sdb_transform.proofs.ExpectedKeys.{KeysAlong, acts_run_of, keys_at_text, keys_at_list, keys_at_object, key_after_child, updated_key}
 
 -- ---- results

@@ -10,14 +10,9 @@ use Rattle.sdb_component.specs.Plain.{PlainAct, na, si, sd, li, ld, lr, oi, od, 
 use Rattle.sdb_transform.specs.declared.side.Side.{Side}
 use Rattle.sdb_transform.specs.declared.side.Side.TheVariants.{Left, Right}
 use Rattle.sdb_transform.specs.Transform.{ActTransform, at_shifted_position, left_wins_or, one_act, no_acts, transform_act, split_delete, delete_without_overlap, delete_unless_empty, map_removed, put_after_put}
-use Rattle.sdb_transform.specs.Convergence.{HasValidTexts}
-use Rattle.sdb_transform.specs.OperationConvergence.{InsertsWellFormedValue}
+use Rattle.sdb_transform.specs.OperationConvergence.{HasValidParts}
 use Rattle.sdb_transform.proofs.OffsetLemmas.{cut_prefix, units_split}
 use Rattle.sdb_transform.proofs.FormedValues.{cut_boundary}
-
--- valid texts and a well-formed inserted value
-abbrev pub HasValidParts : PlainAct → Type 0
-HasValidParts a = HasValidTexts a × InsertsWellFormedValue a
 
 abbrev pub AllHaveValidParts : List PlainAct → Type 0
 AllHaveValidParts [] = ⊤

@@ -19,16 +19,22 @@ InsertsWellFormedValue (oi k v) = IsWellFormed v
 InsertsWellFormedValue (or k x y) = IsWellFormed y
 InsertsWellFormedValue _ = ⊤
 
--- the component applies to d as its shape needs, and its texts and inserted value are valid
-pub record IsMadeFor (c : PlainComponent) (d : Value) : Type 0 where
-  pub made : WellMade c d
-  pub texts : HasValidTexts c.act
-  pub inserts : InsertsWellFormedValue c.act
+-- valid texts and a well-formed inserted value; each component of the server has them
+abbrev pub HasValidParts : PlainAct → Type 0
+HasValidParts a = HasValidTexts a × InsertsWellFormedValue a
 
--- the components are made for d: each for the result of those before it
+abbrev pub HaveValidParts : List PlainComponent → Type 0
+HaveValidParts [] = ⊤
+HaveValidParts (c ∷ cs) = HasValidParts c.act × HaveValidParts cs
+
+-- each component is well made for the result of those before it
+abbrev pub AreWellMade : List PlainComponent → Value → Type 0
+AreWellMade [] d = ⊤
+AreWellMade (c ∷ cs) d = (w : WellMade c d) × AreWellMade cs w.result
+
+-- the operation is made for d
 abbrev pub AreMadeFor : List PlainComponent → Value → Type 0
-AreMadeFor [] d = ⊤
-AreMadeFor (c ∷ cs) d = (m : IsMadeFor c d) × AreMadeFor cs m.made.result
+AreMadeFor cs d = AreWellMade cs d × HaveValidParts cs
 
 -- ---- sums that leave the range
 
@@ -70,11 +76,20 @@ pub record OperationsConverge (d : Value) (L R : List PlainComponent) (x : Cross
       TransformsConverge after_left after_right x
       ⊎ (SomeSumLeavesRange x.right after_left ⊎ SomeSumLeavesRange x.left after_right)
 
--- convergence of operations of any length, whose transforms exist
+-- convergence, if the operations can be transformed
+abbrev pub ConvergeIfCrossed : Value → List PlainComponent → List PlainComponent → Type 0
+ConvergeIfCrossed d L R = (x : Crossing PlainComponent) → cross_ops L R ≡ Some x → OperationsConverge d L R x
+
+-- convergence of operations of any length
 abbrev pub AllOperationsConverge : Type 0
 AllOperationsConverge =
-    (d : Value) (L R : List PlainComponent) (x : Crossing PlainComponent) → IsWellFormed d → AreMadeFor L d → AreMadeFor R d
-    → cross_ops L R ≡ Some x → OperationsConverge d L R x
+    (d : Value) (L R : List PlainComponent) → IsWellFormed d → AreMadeFor L d → AreMadeFor R d → ConvergeIfCrossed d L R
+
+-- if both orders apply, they make one value
+abbrev pub OrdersAgree : Type 0
+OrdersAgree =
+    (d e f : Value) (L R : List PlainComponent) (x : Crossing PlainComponent) → IsWellFormed d → AreMadeFor L d → AreMadeFor R d
+    → cross_ops L R ≡ Some x → apply (L ++ x.right) d ≡ Some e → apply (R ++ x.left) d ≡ Some f → e ≡ f
 
 -- ---- crossings that exist
 

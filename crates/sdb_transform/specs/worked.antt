@@ -1,2 +1,3 @@
 pub mod ConvergenceExamples
 pub mod Examples
+pub mod OperationExamples

@@ -5,10 +5,10 @@ ghost use Rattle.sdb_value.specs.View.{value_of};
 ghost use Rattle.sdb_transform.specs.CrossLaws.{WeightNotIncreased, LeftEmpty, RightEmpty, PairRule, PairsWithinProduct, NoSideHeavier};
 ghost use Rattle.sdb_transform.specs.Convergence.{WellMade, HasValidTexts, StaysInRange, ConvergesOrOverflows};
 ghost use Rattle.sdb_transform.specs.ConvergenceLaws.{DisjointConverge, BelowConverge, ListsConverge, ObjectsConverge, TextsConverge, NumbersConverge, AllConverge, InRangeWhereWellMade, RemovedValueIsCurrent};
-ghost use Rattle.sdb_transform.specs.OperationConvergence.{AllOperationsConverge, CrossingExists};
+ghost use Rattle.sdb_transform.specs.OperationConvergence.{AreWellMade, HasValidParts, HaveValidParts, ConvergeIfCrossed, AllOperationsConverge, OrdersAgree, CrossingExists};
 ghost use Rattle.sdb_transform.specs.declared.side.Side.TheVariants.{Left, Right};
 
-use sdb_component::{Act, Component};
+use sdb_component::{Act, Component, Op};
 use sdb_value::Json;
 use sdb_value::laws::well_formed;
 
@@ -95,8 +95,21 @@ pub fn removed_value_is_current()
 /// States convergence of two concurrent operations of any length, if their crossing exists. Each
 /// transformed operation is made for the other one's result, and both orders make one value. Or a
 /// sum leaves the range in one of the orders.
+pub fn crossing_converges(document: &Json, left: &Op, right: &Op)
+    requires left_well_made { AreWellMade left.now (value_of document.now) }
+    requires right_well_made { AreWellMade right.now (value_of document.now) }
+    ensures { ConvergeIfCrossed (value_of document.now) left.now right.now }
+{
+    well_formed(document);
+    have_parts(left.components());
+    have_parts(right.components());
+}
+
+/// States convergence of operations for every value and component of the definitions, and that both
+/// orders make one value if both apply.
 pub fn operations_converge()
-    ensures { AllOperationsConverge }
+    ensures converge { AllOperationsConverge }
+    ensures agree { OrdersAgree }
 {}
 
 /// States that the crossing of two concurrent operations exists, if no index or offset exceeds
@@ -111,6 +124,25 @@ fn has_texts(component: &Component)
     match component.act() {
         Act::Si(_, text) => is_text(text.as_str()),
         Act::Sd(_, text) => is_text(text.as_str()),
+        _ => {}
+    }
+}
+
+fn have_parts(components: &[Component])
+    ensures { HaveValidParts components.now }
+{
+    for component in components {
+        has_parts(component);
+    }
+}
+
+fn has_parts(component: &Component)
+    ensures { HasValidParts component.now.act }
+{
+    match component.act() {
+        Act::Si(_, text) | Act::Sd(_, text) => is_text(text.as_str()),
+        Act::Li(_, value) | Act::Oi(_, value) => well_formed(value),
+        Act::Lr(_, _, value) | Act::Or(_, _, value) => well_formed(value),
         _ => {}
     }
 }
