@@ -32,7 +32,7 @@ abbrev pub AreWellMade : List PlainComponent → Value → Type 0
 AreWellMade [] d = ⊤
 AreWellMade (c ∷ cs) d = (w : WellMade c d) × AreWellMade cs w.result
 
--- the operation is made for d
+-- the operation is well made for d, and its parts are valid
 abbrev pub AreMadeFor : List PlainComponent → Value → Type 0
 AreMadeFor cs d = AreWellMade cs d × HaveValidParts cs
 

@@ -24,55 +24,55 @@ pub record OperationExample (d : Value) (L R : Components) (e : Option Value) : 
 abbrev int : ℕ → Value
 int n = whole (pos n)
 
--- "abc": a is inserted into twice, and b and then c are removed
-abbrev typed : Components
-typed = component_at [] (si 1 (codes "x")) ∷ component_at [] (si 2 (codes "y")) ∷ []
+-- "abc": L inserts two texts after a, and R deletes b and then c
+abbrev two_inserts : Components
+two_inserts = component_at [] (si 1 (codes "x")) ∷ component_at [] (si 2 (codes "y")) ∷ []
 
-abbrev erased : Components
-erased = component_at [] (sd 1 (codes "b")) ∷ component_at [] (sd 1 (codes "c")) ∷ []
+abbrev two_deletions : Components
+two_deletions = component_at [] (sd 1 (codes "b")) ∷ component_at [] (sd 1 (codes "c")) ∷ []
 
-pub row_texts : OperationExample (text (codes "abc")) typed erased (Some (text (codes "axy")))
+pub row_texts : OperationExample (text (codes "abc")) two_inserts two_deletions (Some (text (codes "axy")))
 unfolding cross cross_in
 row_texts = record { one_way = refl; other_way = refl }
 
-pub row_made : AreWellMade typed (text (codes "abc"))
+pub row_made : AreWellMade two_inserts (text (codes "abc"))
 row_made = (
   record { position = text (codes "abc"); result = text (codes "axbc"); found = refl; accepted = refl; key = tt },
   (record { position = text (codes "axbc"); result = text (codes "axybc"); found = refl; accepted = refl; key = tt }, tt),
 )
 
 -- an item that L replaces twice, and R removes after it inserted another one before it
-abbrev replaced : Components
-replaced = component_at [] (lr 0 (int 1) (int 2)) ∷ component_at [] (lr 0 (int 2) (int 3)) ∷ []
+abbrev two_replacements : Components
+two_replacements = component_at [] (lr 0 (int 1) (int 2)) ∷ component_at [] (lr 0 (int 2) (int 3)) ∷ []
 
-abbrev removed : Components
-removed = component_at [] (li 0 (int 8)) ∷ component_at [] (ld 1 (int 1)) ∷ []
+abbrev insert_and_removal : Components
+insert_and_removal = component_at [] (li 0 (int 8)) ∷ component_at [] (ld 1 (int 1)) ∷ []
 
-pub row_lists : OperationExample (list (item (int 1) no_items)) replaced removed (Some (list (item (int 8) (item (int 3) no_items))))
+pub row_lists : OperationExample (list (item (int 1) no_items)) two_replacements insert_and_removal (Some (list (item (int 8) (item (int 3) no_items))))
 unfolding cross cross_in
 row_lists = record { one_way = refl; other_way = refl }
 
--- 9007199254740990 and two additions that each return to it: the sum of both first additions is in neither order
-abbrev returns : Components
-returns = component_at [] (na (pos 1)) ∷ component_at [] (na (negsuc 0)) ∷ []
+-- both add 1 to 9007199254740990 and then subtract it; no order makes the sum of both first additions
+abbrev plus_and_minus : Components
+plus_and_minus = component_at [] (na (pos 1)) ∷ component_at [] (na (negsuc 0)) ∷ []
 
-pub row_returns : OperationExample (int 9007199254740990) returns returns (Some (int 9007199254740990))
+pub row_sums : OperationExample (int 9007199254740990) plus_and_minus plus_and_minus (Some (int 9007199254740990))
 unfolding cross cross_in
-row_returns = record { one_way = refl; other_way = refl }
+row_sums = record { one_way = refl; other_way = refl }
 
 -- one order applies, and a sum leaves the range in the other one
-abbrev added : Components
-added = component_at [] (na (pos 1)) ∷ []
+abbrev plus_one : Components
+plus_one = component_at [] (na (pos 1)) ∷ []
 
-pub row_one_order : apply_left_first (int 9007199254740990) returns added ≡ Some (int 9007199254740991)
+pub row_one_order : apply_left_first (int 9007199254740990) plus_and_minus plus_one ≡ Some (int 9007199254740991)
 unfolding cross cross_in
 row_one_order = refl
 
-pub row_other_order : apply_right_first (int 9007199254740990) returns added ≡ None
+pub row_other_order : apply_right_first (int 9007199254740990) plus_and_minus plus_one ≡ None
 unfolding cross cross_in
 row_other_order = refl
 
-pub row_leaves : SomeSumLeavesRange returns (int 9007199254740991)
+pub row_leaves : SomeSumLeavesRange plus_and_minus (int 9007199254740991)
 row_leaves = record {
   prefix = [];
   component = component_at [] (na (pos 1));
