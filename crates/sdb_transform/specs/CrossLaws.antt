@@ -1,10 +1,10 @@
 -- Laws of the table of transforms and of crossings.
-use Rattle.std.specs.Prelude.{◌≡◌, ◌*◌, ◌≤◌, List, [], ◌∷◌, Some}
+use Rattle.std.specs.Prelude.{◌≡◌, ◌*◌, ◌≤◌, List, [], ◌∷◌, ◌++◌, Some}
 use Rattle.sdb_component.specs.Plain.{PlainComponent}
 use Rattle.sdb_component.specs.Weight.{component_weight, weight}
 use Rattle.sdb_transform.specs.declared.side.Side.{Side}
 use Rattle.sdb_transform.specs.declared.side.Side.TheVariants.{Left, Right}
-use Rattle.sdb_transform.specs.Cross.{Crossing, and_then, join_crossings, cross_ops}
+use Rattle.sdb_transform.specs.Cross.{Crossing, and_then, join_crossings, append_right, cross_ops}
 use Rattle.sdb_transform.specs.Transform.{transform}
 
 abbrev Components : Type 0
@@ -32,6 +32,14 @@ PairRule =
     and_then (cross_ops L r1) (λ v.
     and_then (cross_ops v.left u.right) (λ w.
     Some (join_crossings u v w))))))
+
+-- X(L, Ra ++ Rb): L crosses Ra, and then Rb
+abbrev pub RightAppended : Type 0
+RightAppended =
+    (L Ra Rb : Components) → cross_ops L (Ra ++ Rb) ≡
+    and_then (cross_ops L Ra) (λ x.
+    and_then (cross_ops x.left Rb) (λ y.
+    Some (append_right x y)))
 
 -- the pairs are at most the product of both weights, and no side gains weight
 abbrev pub PairsWithinProduct : Type 0

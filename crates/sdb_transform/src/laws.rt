@@ -2,7 +2,7 @@
 //! effect.
 ghost use Rattle.std.specs.Str.{IsUtf8};
 ghost use Rattle.sdb_value.specs.View.{value_of};
-ghost use Rattle.sdb_transform.specs.CrossLaws.{WeightNotIncreased, LeftEmpty, RightEmpty, PairRule, PairsWithinProduct, NoSideHeavier};
+ghost use Rattle.sdb_transform.specs.CrossLaws.{WeightNotIncreased, LeftEmpty, RightEmpty, PairRule, RightAppended, PairsWithinProduct, NoSideHeavier};
 ghost use Rattle.sdb_transform.specs.Convergence.{WellMade, HasValidTexts, StaysInRange, ConvergesOrOverflows};
 ghost use Rattle.sdb_transform.specs.ConvergenceLaws.{DisjointConverge, BelowConverge, ListsConverge, ObjectsConverge, TextsConverge, NumbersConverge, AllConverge, InRangeWhereWellMade, RemovedValueIsCurrent};
 ghost use Rattle.sdb_transform.specs.OperationConvergence.{AreWellMade, HasValidParts, HaveValidParts, ConvergeIfCrossed, AllOperationsConverge, OrdersAgree, CrossingExists};
@@ -22,6 +22,12 @@ pub fn cross_equations()
     ensures left_empty { LeftEmpty }
     ensures right_empty { RightEmpty }
     ensures pair { PairRule }
+{}
+
+/// States that an operation crosses two operations in sequence as it crosses their concatenation.
+/// So the laws of two operations hold for an operation and a sequence of stored ones.
+pub fn crosses_in_sequence()
+    ensures { RightAppended }
 {}
 
 /// States that a crossing transforms at most as many pairs as the product of both weights, and
