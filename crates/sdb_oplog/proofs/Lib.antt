@@ -1,4 +1,5 @@
 mod RebaseLemmas
+mod RebasedContentLemmas
 mod IndexUseLemmas
 pub mod LogGrowth
 pub mod VersionSearch

@@ -1,12 +1,15 @@
 -- Examples: decisions of submissions on a log.
 use Rattle.std.specs.Prelude.{◌≡◌, ℕ, true, false, List, [], ◌∷◌, Option, Some, None, codes, refl, pos}
-use Rattle.sdb_value.specs.Value.{whole, text, list, object, item, no_items, member, no_members, key}
-use Rattle.sdb_component.specs.Plain.{PlainAct, na, li}
+use Rattle.std.proofs.Common.{subst}
+use Rattle.sdb_value.specs.Value.{whole, text, list, object, item, no_items, member, no_members, member_at, key}
+use Rattle.sdb_component.specs.Plain.{PlainAct, na, li, oi}
+use Rattle.sdb_transform.specs.Convergence.{HasExpectedKey}
 use Rattle.sdb_transform.specs.Cross.{cross, cross_in}
 use Rattle.sdb_oplog.specs.Plain.{PlainContent, create, delete, edit, PlainSubmission, PlainEntry}
 use Rattle.sdb_oplog.specs.Snap.{snap, document_of}
 use Rattle.sdb_oplog.specs.Decide.{decide, stored, repeated, refused, decide_allocates, IsMade}
 use Rattle.sdb_oplog.specs.Keys.{shard_of}
+use Rattle.sdb_oplog.specs.RebasedContents.{IsContentMadeFor}
 use Rattle.sdb_oplog.specs.declared.codes.Code.TheVariants.{E4, E5, E6, E7, E8}
 
 abbrev from : List ℕ → ℕ → Option ℕ → PlainContent → PlainSubmission
@@ -56,6 +59,21 @@ row_created = refl
 
 pub row_absent : (decide [] (from (codes "y") 2 None (edit [])) 0).reply ≡ refused E7
 row_absent = refl
+
+-- an Oi of a present key is stored, though it isn't made for the document
+abbrev overwrite : PlainContent
+overwrite = edit (record { path = []; act = oi (codes "n") (whole (pos 1)) } ∷ [])
+
+pub row_overwritten : (decide two (from (codes "y") 2 (Some 2) overwrite) 0).reply ≡ stored 2 []
+row_overwritten = refl
+
+pub row_not_made_for : IsContentMadeFor overwrite (document_of two) → ⊥
+row_not_made_for h =
+    let w = h.0.0 in
+    let found = w.found in
+    let is : w.position ≡ object (member (codes "n") (whole (pos 2)) no_members) = cc in
+    let absent : member_at (codes "n") (member (codes "n") (whole (pos 2)) no_members) ≡ None = subst (HasExpectedKey (oi (codes "n") (whole (pos 1)))) is w.key in
+    cc
 
 -- against a delete an edit is refused, and a delete stays
 abbrev three : List PlainEntry

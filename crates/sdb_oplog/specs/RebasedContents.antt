@@ -1,0 +1,70 @@
+-- Contents that are made for a document: an edit made for the document at its base version is rebased to one that is
+-- made for the current document.
+use Rattle.std.specs.Prelude.{◌≡◌, List, [], ◌∷◌, take, Option, Some, None, Ok, ◌⊎◌, ⊤}
+use Rattle.sdb_value.specs.Value.{Value}
+use Rattle.sdb_value.specs.WellFormed.{IsWellFormed}
+use Rattle.sdb_transform.specs.OperationConvergence.{AreMadeFor, SomeSumLeavesRange}
+use Rattle.sdb_oplog.specs.Plain.{PlainContent, create, delete, edit, PlainSubmission, PlainEntry}
+use Rattle.sdb_oplog.specs.Rebase.{rebase}
+use Rattle.sdb_oplog.specs.Snap.{apply_content, snap_from, document_of}
+use Rattle.sdb_oplog.specs.Decide.{missed_entries, base_version, IsMade}
+
+-- ---- contents made for a document
+
+-- an edit needs a document, and its operation is made for it; the value of a create is well formed
+abbrev pub IsContentMadeFor : PlainContent → Option Value → Type 0
+IsContentMadeFor (create v) d = IsWellFormed v
+IsContentMadeFor delete d = ⊤
+IsContentMadeFor (edit op) None = ⊥
+IsContentMadeFor (edit op) (Some d) = AreMadeFor op d
+
+-- each entry's content is made for the document before it, and applies; the document before the first one is d
+--
+-- `IsMade` states that each entry applies, but not that it is made: a log also stores an Oi of a present key. So a law
+-- has this relation as a premise about the missed entries.
+abbrev pub AreEntriesMadeFor : List PlainEntry → Option Value → Type 0
+AreEntriesMadeFor [] d = ⊤
+AreEntriesMadeFor (e ∷ es) d =
+    IsContentMadeFor e.content d × (n : Option Value) × (apply_content e.content d ≡ Ok n) × AreEntriesMadeFor es n
+
+-- the document is absent or well formed
+abbrev pub IsWellFormedDocument : Option Value → Type 0
+IsWellFormedDocument None = ⊤
+IsWellFormedDocument (Some d) = IsWellFormed d
+
+-- ---- rebased contents
+
+-- the content is an edit that adds to a number of the document, and the sum leaves the range
+abbrev pub EditSumLeavesRange : PlainContent → Option Value → Type 0
+EditSumLeavesRange (edit op) (Some d) = SomeSumLeavesRange op d
+EditSumLeavesRange m d = ⊥
+
+-- the content is made for the document, or its sum leaves the range there
+abbrev pub IsMadeOrSumLeavesRange : PlainContent → Option Value → Type 0
+IsMadeOrSumLeavesRange m d = IsContentMadeFor m d ⊎ EditSumLeavesRange m d
+
+-- a content made for d, rebased on made entries, is made for the document after them, or its sum leaves the range there
+abbrev pub RebasedContentsAreMade : Type 0
+RebasedContentsAreMade =
+    (es : List PlainEntry) (m rebased : PlainContent) (d after : Option Value) → IsWellFormedDocument d
+    → IsContentMadeFor m d → AreEntriesMadeFor es d → rebase m es ≡ Ok rebased → snap_from d es ≡ Some after
+    → IsMadeOrSumLeavesRange rebased after
+
+-- the document at the submission's base version
+abbrev pub base_document : List PlainEntry → PlainSubmission → Option Value
+base_document log s = document_of (take (base_version log s) log)
+
+-- the submission's content is made for the document at its base version
+abbrev pub IsMadeAtBase : List PlainEntry → PlainSubmission → Type 0
+IsMadeAtBase log s = IsContentMadeFor s.content (base_document log s)
+
+-- each missed entry is made for the document before it
+abbrev pub AreMissedEntriesMade : List PlainEntry → PlainSubmission → Type 0
+AreMissedEntriesMade log s = AreEntriesMadeFor (missed_entries log s) (base_document log s)
+
+-- the same for a submission to a made log, whose rebased content is to be applied to the current document
+abbrev pub RebasedSubmissionsAreMade : Type 0
+RebasedSubmissionsAreMade =
+    (log : List PlainEntry) (s : PlainSubmission) (rebased : PlainContent) → IsMade log
+    → IsWellFormedDocument (base_document log s) → AreMissedEntriesMade log s → IsMadeAtBase log s
+    → rebase s.content (missed_entries log s) ≡ Ok rebased → IsMadeOrSumLeavesRange rebased (document_of log)
