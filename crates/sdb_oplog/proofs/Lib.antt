@@ -1,5 +1,6 @@
 mod RebaseLemmas
 mod RebasedContentLemmas
+mod MadeEntryLemmas
 mod IndexUseLemmas
 pub mod LogGrowth
 pub mod VersionSearch

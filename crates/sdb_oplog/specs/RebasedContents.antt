@@ -1,6 +1,6 @@
 -- Contents that are made for a document: an edit made for the document at its base version is rebased to one that is
 -- made for the current document.
-use Rattle.std.specs.Prelude.{◌≡◌, List, [], ◌∷◌, take, Option, Some, None, Ok, ◌⊎◌, ⊤}
+use Rattle.std.specs.Prelude.{◌≡◌, List, [], ◌∷◌, ◌++◌, take, Option, Some, None, Ok, ◌⊎◌, ⊤}
 use Rattle.sdb_value.specs.Value.{Value}
 use Rattle.sdb_value.specs.WellFormed.{IsWellFormed}
 use Rattle.sdb_transform.specs.OperationConvergence.{AreMadeFor, SomeSumLeavesRange}
@@ -21,7 +21,7 @@ IsContentMadeFor (edit op) (Some d) = AreMadeFor op d
 -- each entry's content is made for the document before it, and applies; the document before the first one is d
 --
 -- `IsMade` states that each entry applies, but not that it is made: a log also stores an Oi of a present key. So a law
--- has this relation as a premise about the missed entries.
+-- has this relation as a premise about the missed entries, or `AreMadeAtBase`, from which it follows.
 abbrev pub AreEntriesMadeFor : List PlainEntry → Option Value → Type 0
 AreEntriesMadeFor [] d = ⊤
 AreEntriesMadeFor (e ∷ es) d =
@@ -68,3 +68,18 @@ RebasedSubmissionsAreMade =
     (log : List PlainEntry) (s : PlainSubmission) (rebased : PlainContent) → IsMade log
     → IsWellFormedDocument (base_document log s) → AreMissedEntriesMade log s → IsMadeAtBase log s
     → rebase s.content (missed_entries log s) ≡ Ok rebased → IsMadeOrSumLeavesRange rebased (document_of log)
+
+-- ---- logs of made submissions
+
+-- each submission of the entries was made for the document at its base version
+abbrev pub AreMadeAtBaseFrom : List PlainEntry → List PlainEntry → Type 0
+AreMadeAtBaseFrom before [] = ⊤
+AreMadeAtBaseFrom before (e ∷ es) = IsMadeAtBase before e.arrived × AreMadeAtBaseFrom (before ++ e ∷ []) es
+
+-- of all entries of a log
+abbrev pub AreMadeAtBase : List PlainEntry → Type 0
+AreMadeAtBase = AreMadeAtBaseFrom []
+
+-- if each submission of a made log was made at its base version, each entry is made
+abbrev pub StoredEntriesAreMade : Type 0
+StoredEntriesAreMade = (log : List PlainEntry) → IsMade log → AreMadeAtBase log → AreEntriesMadeFor log None
