@@ -1,5 +1,5 @@
 //! Laws of rebased contents, as contracts of functions without effect.
-ghost use Rattle.sdb_oplog.specs.RebasedContents.{RebasedContentsAreMade, RebasedSubmissionsAreMade, StoredEntriesAreMade};
+ghost use Rattle.sdb_oplog.specs.RebasedContents.{RebasedContentsAreMade, RebasedSubmissionsAreMade, StoredEntriesAreMade, RefusalsHaveCauses, RefusalsHaveCausesIfAllMade};
 
 /// States that a content made for a document is rebased to one that is made for the document after
 /// the entries, or a sum of it leaves the range there. The premise is that the entries are made too.
@@ -12,4 +12,11 @@ pub fn rebased_contents_are_made()
 /// the log was made for the document at its base version.
 pub fn stored_entries_are_made()
     ensures { StoredEntriesAreMade }
+{}
+
+/// States the causes for which an edit is refused that was made for the document at its base
+/// version. Either the missed entries are made too, or each submission of the log was.
+pub fn refusals_have_causes()
+    ensures missed_made { RefusalsHaveCauses }
+    ensures all_made { RefusalsHaveCausesIfAllMade }
 {}
