@@ -13,11 +13,11 @@ use Rattle.sdb_oplog.specs.Plain.{PlainContent, create, delete, edit, PlainSubmi
 use Rattle.sdb_oplog.specs.Refusal.{result_and_then}
 use Rattle.sdb_oplog.specs.Rebase.{rebase}
 use Rattle.sdb_oplog.specs.Snap.{apply_content, snap_from, snap, document_of, stored_at}
-use Rattle.sdb_oplog.specs.Decide.{decide, append_decided, rebased_content, new_entry, is_log_full, is_version_too_new, base_version, missed_entries, IsMadeFrom}
-use Rattle.sdb_oplog.specs.RebasedContents.{IsContentMadeFor, AreEntriesMadeFor, IsMadeAtBase, AreMadeAtBaseFrom, base_document, StoredEntriesAreMade}
+use Rattle.sdb_oplog.specs.Decide.{decide, append_decided, rebased_content, new_entry, is_log_full, is_version_too_new, base_version, missed_entries, IsMadeFrom, IsMade}
+use Rattle.sdb_oplog.specs.RebasedContents.{IsContentMadeFor, AreEntriesMadeFor, IsMadeAtBase, AreMadeAtBaseFrom, AreMadeAtBase, base_document, StoredEntriesAreMade, RebasedAreMadeIfAllMade}
 use Rattle.sdb_oplog.specs.laws.LogLaws.{append_nil, append_changes, some_of_is_some, document_of_append, decides_repeat, decides_settled}
 use Rattle.sdb_oplog.specs.laws.DecidedLogLaws.{same_last, applied_if_settled}
-use Rattle.sdb_oplog.proofs.RebasedContentLemmas.{IsFormedDocument, ContentRun, content_run, formed_after, rebase_run, snap_after_first, snap_prefix, snap_since}
+use Rattle.sdb_oplog.proofs.RebasedContentLemmas.{IsFormedDocument, ContentRun, content_run, content_made_or_overflows, formed_after, rebase_run, snap_after_first, snap_prefix, snap_since}
 
 -- ---- a content that is made apart from the range of sums, and applies
 
@@ -58,7 +58,7 @@ content_made (edit op) (Some d) n r h = let e = ok_edit (apply op d) n h in run_
 -- ---- parts of made entries
 
 -- the entries after a prefix are made for the document after it
-record RestMade (es : List PlainEntry) (d : Option Value) : Type 0 where
+pub record RestMade (es : List PlainEntry) (d : Option Value) : Type 0 where
   pub formed : IsFormedDocument d
   pub made : AreEntriesMadeFor es d
 
@@ -72,6 +72,11 @@ made_append [] e d n k h s a b =
     let is = sym (same_some d n s) in
     (subst (IsContentMadeFor e.content) is a, k, subst (λ m. apply_content e.content m ≡ Ok k) is b, tt)
 made_append (x ∷ xs) e d n k h s a b = (h.0, h.1, h.2, made_append xs e h.1 n k h.3 (snap_after_first xs x d h.1 n h.2 s) a b)
+
+-- the document at a version, and the entries since it
+pub rest_made : (log : List PlainEntry) (v : ℕ) → is_some (snap log) ≡ true → AreEntriesMadeFor log None → RestMade (drop v log) (document_of (take v log))
+rest_made log v alive h =
+    made_after (take v log) (drop v log) None (document_of (take v log)) tt (subst (λ l. AreEntriesMadeFor l None) (sym (take-append-drop v log)) h) (snap_prefix log v alive)
 
 -- ---- what a decision has stored
 
@@ -100,13 +105,15 @@ record MadeBefore (log : List PlainEntry) : Type 0 where
   pub alive : is_some (snap log) ≡ true
   pub made : AreEntriesMadeFor log None
 
-made_entry : (log : List PlainEntry) (s : PlainSubmission) (m : PlainContent) → MadeBefore log → IsMadeAtBase log s → StoredContent log s m → IsContentMadeFor m (document_of log)
-made_entry log s m b a st =
+-- the rebased content of a submission that is made at its base version
+rebased_run : (log : List PlainEntry) (s : PlainSubmission) (m : PlainContent) → MadeBefore log → IsMadeAtBase log s → rebase s.content (missed_entries log s) ≡ Ok m → ContentRun m (document_of log)
+rebased_run log s m b a h =
     let v = base_version log s in
-    let parts = subst (λ l. AreEntriesMadeFor l None) (sym (take-append-drop v log)) b.made in
-    let rest = made_after (take v log) (drop v log) None (base_document log s) tt parts (snap_prefix log v b.alive) in
-    let r = rebase_run (missed_entries log s) s.content m (base_document log s) (document_of log) rest.formed (content_run s.content (base_document log s) a) rest.made st.rebased (snap_since log v b.alive) in
-    content_made m (document_of log) st.result r.run st.applied
+    let rest = rest_made log v b.alive b.made in
+    (rebase_run (missed_entries log s) s.content m (base_document log s) (document_of log) rest.formed (content_run s.content (base_document log s) a) rest.made h (snap_since log v b.alive)).run
+
+made_entry : (log : List PlainEntry) (s : PlainSubmission) (m : PlainContent) → MadeBefore log → IsMadeAtBase log s → StoredContent log s m → IsContentMadeFor m (document_of log)
+made_entry log s m b a st = content_made m (document_of log) st.result (rebased_run log s m b a st.rebased) st.applied
 
 made_with_entry : (log : List PlainEntry) (e : PlainEntry) → MadeBefore log → IsMadeAtBase log e.arrived → StoredContent log e.arrived e.content → MadeBefore (log ++ e ∷ [])
 made_with_entry log e b a st = record {
@@ -120,10 +127,11 @@ made_from before (e ∷ es) b h a =
     let st = stored_of_decide before e.arrived e.moment e (stored_at e.arrived.src e.arrived.seq before) refl h.0 in
     subst MadeBefore (append_assoc before (e ∷ []) es) (made_from (before ++ e ∷ []) es (made_with_entry before e b a.0 st) h.1 a.1)
 
-pub entries_made : StoredEntriesAreMade
-entries_made log h a = (made_from [] log (record { alive = refl; made = tt }) h a).made
+made_log : (log : List PlainEntry) → IsMade log → AreMadeAtBase log → MadeBefore log
+made_log log h a = made_from [] log (record { alive = refl; made = tt }) h a
 
--- the missed entries of a submission to such a log
-pub missed_made : (log : List PlainEntry) (v : ℕ) → is_some (snap log) ≡ true → AreEntriesMadeFor log None → AreEntriesMadeFor (drop v log) (document_of (take v log))
-missed_made log v alive h =
-    (made_after (take v log) (drop v log) None (document_of (take v log)) tt (subst (λ l. AreEntriesMadeFor l None) (sym (take-append-drop v log)) h) (snap_prefix log v alive)).made
+pub entries_made : StoredEntriesAreMade
+entries_made log h a = (made_log log h a).made
+
+pub rebased_made_if_all_made : RebasedAreMadeIfAllMade
+rebased_made_if_all_made log s m h all a e = content_made_or_overflows m (document_of log) (rebased_run log s m (made_log log h all) a e)

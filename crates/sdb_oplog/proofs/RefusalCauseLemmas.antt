@@ -23,7 +23,7 @@ use Rattle.sdb_oplog.specs.RebasedContents.{IsContentMadeFor, AreEntriesMadeFor,
 use Rattle.sdb_oplog.specs.laws.LogLaws.{append_nil, decides_repeat, decides_settled}
 use Rattle.sdb_oplog.specs.laws.DecidedLogLaws.{alive_of_made}
 use Rattle.sdb_oplog.proofs.RebasedContentLemmas.{IsFormedDocument, ContentRun, formed_document, content_run, rebase_run, edit_applied, edit_over_run, snap_append, snap_prefix, snap_since}
-use Rattle.sdb_oplog.proofs.MadeEntryLemmas.{entries_made, missed_made}
+use Rattle.sdb_oplog.proofs.MadeEntryLemmas.{entries_made, rest_made}
 
 -- ---- causes among the entries
 
@@ -274,4 +274,4 @@ refusals_have_causes log s now code made w missed a h = refusals log s now code 
 pub refusals_have_causes_if_all_made : RefusalsHaveCausesIfAllMade
 refusals_have_causes_if_all_made log s now code made w all a h =
     let alive = alive_of_made log made in
-    refusals log s now code alive w (missed_made log (base_version log s) alive (entries_made log made all)) a h
+    refusals log s now code alive w (rest_made log (base_version log s) alive (entries_made log made all)).made a h

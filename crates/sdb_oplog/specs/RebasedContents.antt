@@ -92,6 +92,13 @@ AreMadeAtBase = AreMadeAtBaseFrom []
 abbrev pub StoredEntriesAreMade : Type 0
 StoredEntriesAreMade = (log : List PlainEntry) → IsMade log → AreMadeAtBase log → AreEntriesMadeFor log None
 
+-- the rebased content of a submission to such a log, if it was made at its base version, too
+abbrev pub RebasedAreMadeIfAllMade : Type 0
+RebasedAreMadeIfAllMade =
+    (log : List PlainEntry) (s : PlainSubmission) (rebased : PlainContent) → IsMade log → AreMadeAtBase log
+    → IsMadeAtBase log s → rebase s.content (missed_entries log s) ≡ Ok rebased
+    → IsMadeOrSumLeavesRange rebased (document_of log)
+
 -- ---- causes of refusals
 
 -- an edit rebased on the entries, and the document after them if d is the one before

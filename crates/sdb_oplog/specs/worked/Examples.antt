@@ -9,7 +9,7 @@ use Rattle.sdb_oplog.specs.Plain.{PlainContent, create, delete, edit, PlainSubmi
 use Rattle.sdb_oplog.specs.Snap.{snap, document_of}
 use Rattle.sdb_oplog.specs.Decide.{decide, stored, repeated, refused, decide_allocates, IsMade}
 use Rattle.sdb_oplog.specs.Keys.{shard_of}
-use Rattle.sdb_oplog.specs.RebasedContents.{IsContentMadeFor}
+use Rattle.sdb_oplog.specs.RebasedContents.{IsContentMadeFor, IsMadeAtBase, AreMadeAtBase, IsEditMadeAtBase}
 use Rattle.sdb_oplog.specs.declared.codes.Code.TheVariants.{E4, E5, E6, E7, E8}
 
 abbrev from : List ℕ → ℕ → Option ℕ → PlainContent → PlainSubmission
@@ -99,6 +99,30 @@ pub row_left : document_of (decide met (insert_in (codes "z") 1 (codes "B")) 0).
     ≡ Some (list (item (text (codes "B")) (item (text (codes "A")) (item (text (codes "x")) no_items))))
 unfolding cross cross_in
 row_left = refl
+
+-- a log whose submissions are made at their base versions, and a submission concurrent with its last entry
+abbrev insert_list : List ℕ → PlainSubmission
+insert_list s = from s 2 (Some 1) (edit (record { path = []; act = li 0 (list no_items) } ∷ []))
+
+abbrev empty_list : List PlainEntry
+empty_list = (decide [] (from (codes "x") 1 None (create (list no_items))) 0).log
+
+abbrev inserted_once : List PlainEntry
+inserted_once = (decide empty_list (insert_list (codes "x")) 0).log
+
+pub row_insert_made : (s : List ℕ) → IsEditMadeAtBase empty_list (insert_list s)
+row_insert_made s = record {
+  operation = record { path = []; act = li 0 (list no_items) } ∷ [];
+  edits = refl;
+  made =
+      ((record { position = list no_items; result = list (item (list no_items) no_items); found = refl; accepted = refl; key = tt }, tt), ((tt, tt), tt));
+}
+
+pub row_all_made : AreMadeAtBase inserted_once
+row_all_made = (tt, ((row_insert_made (codes "x")).made, tt))
+
+pub row_concurrent_made : IsMadeAtBase inserted_once (insert_list (codes "y"))
+row_concurrent_made = (row_insert_made (codes "y")).made
 
 -- without allocations: a duplicate, a version too new, a create on a document, an edit of an absent one, an edit
 -- against a delete; an append allocates, and so does an edit that is transformed
