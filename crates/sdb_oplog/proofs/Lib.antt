@@ -1,4 +1,7 @@
 mod RebaseLemmas
+mod RebasedContentLemmas
+mod MadeEntryLemmas
+mod RefusalCauseLemmas
 mod IndexUseLemmas
 pub mod LogGrowth
 pub mod VersionSearch

@@ -6,6 +6,7 @@ pub mod Keys
 pub mod LogInvariant
 pub mod Moments
 pub mod Rebase
+pub mod RebasedContents
 pub mod IndexModel
 pub mod Plain
 pub mod Refusal

@@ -9,6 +9,7 @@ mod entry;
 mod equality;
 mod index;
 mod keys;
+pub mod laws;
 mod log;
 mod moment;
 mod path_interner;

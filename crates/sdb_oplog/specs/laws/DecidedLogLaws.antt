@@ -53,7 +53,7 @@ will_store_allocates log s content made w =
 
 -- ---- documents of made logs
 
-same_last : (log : List PlainEntry) (e f : PlainEntry) → log ++ e ∷ [] ≡ log ++ f ∷ [] → e ≡ f
+pub same_last : (log : List PlainEntry) (e f : PlainEntry) → log ++ e ∷ [] ≡ log ++ f ∷ [] → e ≡ f
 same_last [] e f h = cc
 same_last (x ∷ log) e f h = let g : log ++ e ∷ [] ≡ log ++ f ∷ [] = cc in same_last log e f g
 
@@ -61,13 +61,13 @@ applied_if_ok : (r : Result (Option Value) Code) (k m : PlainContent) → result
 applied_if_ok (Ok n) k m e = (n, refl, cc)
 applied_if_ok (Err c) k m e = cc
 
-applied_if_settled : (full newer : Bool) (r : Result PlainContent Code) (d : Option Value) (m : PlainContent)
+pub applied_if_settled : (full newer : Bool) (r : Result PlainContent Code) (d : Option Value) (m : PlainContent)
     → cond full (Err E11) (cond newer (Err E4) (result_and_then (λ k. result_and_then (λ n. Ok k) (apply_content k d)) r)) ≡ Ok m
-    → (n : Option Value) × (apply_content m d ≡ Ok n)
+    → (n : Option Value) × (r ≡ Ok m) × (apply_content m d ≡ Ok n)
 applied_if_settled true newer r d m e = cc
 applied_if_settled false true r d m e = cc
 applied_if_settled false false (Err c) d m e = cc
-applied_if_settled false false (Ok k) d m e = let a = applied_if_ok (apply_content k d) k m e in (a.0, ap (λ x. apply_content x d) (sym a.2) ∙ a.1)
+applied_if_settled false false (Ok k) d m e = let a = applied_if_ok (apply_content k d) k m e in (a.0, ap Ok a.2, ap (λ x. apply_content x d) (sym a.2) ∙ a.1)
 
 alive_of_append_decided : (log : List PlainEntry) (s : PlainSubmission) (now : ℕ) (e : PlainEntry) (r : Result PlainContent Code)
     → is_some (snap log) ≡ true → rebased_content log s ≡ r → (append_decided log s now r).log ≡ log ++ e ∷ [] → is_some (snap (log ++ e ∷ [])) ≡ true
@@ -75,7 +75,7 @@ alive_of_append_decided log s now e (Err c) alive is h = absurd (append_changes 
 alive_of_append_decided log s now e (Ok m) alive is h =
     let a = applied_if_settled (is_log_full log) (is_version_too_new log s) (rebase s.content (missed_entries log s)) (document_of log) m is in
     ap is_some (ap (λ x. snap (log ++ x ∷ [])) (sym (same_last log (new_entry log s now m) e h))
-    ∙ document_of_append log (new_entry log s now m) (document_of log) a.0 (some_of_is_some (snap log) alive) a.1)
+    ∙ document_of_append log (new_entry log s now m) (document_of log) a.0 (some_of_is_some (snap log) alive) a.2)
 
 alive_of_decide : (log : List PlainEntry) (s : PlainSubmission) (now : ℕ) (e : PlainEntry) (o : Option ℕ)
     → is_some (snap log) ≡ true → stored_at s.src s.seq log ≡ o → (decide log s now).log ≡ log ++ e ∷ [] → is_some (snap (log ++ e ∷ [])) ≡ true

@@ -1,12 +1,15 @@
 -- Examples: decisions of submissions on a log.
 use Rattle.std.specs.Prelude.{◌≡◌, ℕ, true, false, List, [], ◌∷◌, Option, Some, None, codes, refl, pos}
-use Rattle.sdb_value.specs.Value.{whole, text, list, object, item, no_items, member, no_members, key}
-use Rattle.sdb_component.specs.Plain.{PlainAct, na, li}
+use Rattle.std.proofs.Common.{subst}
+use Rattle.sdb_value.specs.Value.{whole, text, list, object, item, no_items, member, no_members, member_at, key}
+use Rattle.sdb_component.specs.Plain.{PlainAct, na, li, oi}
+use Rattle.sdb_transform.specs.Convergence.{HasExpectedKey}
 use Rattle.sdb_transform.specs.Cross.{cross, cross_in}
 use Rattle.sdb_oplog.specs.Plain.{PlainContent, create, delete, edit, PlainSubmission, PlainEntry}
 use Rattle.sdb_oplog.specs.Snap.{snap, document_of}
 use Rattle.sdb_oplog.specs.Decide.{decide, stored, repeated, refused, decide_allocates, IsMade}
 use Rattle.sdb_oplog.specs.Keys.{shard_of}
+use Rattle.sdb_oplog.specs.RebasedContents.{IsContentMadeFor, IsMadeAtBase, AreMadeAtBase, IsEditMadeAtBase}
 use Rattle.sdb_oplog.specs.declared.codes.Code.TheVariants.{E4, E5, E6, E7, E8}
 
 abbrev from : List ℕ → ℕ → Option ℕ → PlainContent → PlainSubmission
@@ -57,6 +60,21 @@ row_created = refl
 pub row_absent : (decide [] (from (codes "y") 2 None (edit [])) 0).reply ≡ refused E7
 row_absent = refl
 
+-- an Oi of a present key is stored, though it isn't made for the document
+abbrev overwrite : PlainContent
+overwrite = edit (record { path = []; act = oi (codes "n") (whole (pos 1)) } ∷ [])
+
+pub row_overwritten : (decide two (from (codes "y") 2 (Some 2) overwrite) 0).reply ≡ stored 2 []
+row_overwritten = refl
+
+pub row_not_made_for : IsContentMadeFor overwrite (document_of two) → ⊥
+row_not_made_for h =
+    let w = h.0.0 in
+    let found = w.found in
+    let is : w.position ≡ object (member (codes "n") (whole (pos 2)) no_members) = cc in
+    let absent : member_at (codes "n") (member (codes "n") (whole (pos 2)) no_members) ≡ None = subst (HasExpectedKey (oi (codes "n") (whole (pos 1)))) is w.key in
+    cc
+
 -- against a delete an edit is refused, and a delete stays
 abbrev three : List PlainEntry
 three = (decide two (from (codes "y") 1 (Some 2) delete) 0).log
@@ -81,6 +99,30 @@ pub row_left : document_of (decide met (insert_in (codes "z") 1 (codes "B")) 0).
     ≡ Some (list (item (text (codes "B")) (item (text (codes "A")) (item (text (codes "x")) no_items))))
 unfolding cross cross_in
 row_left = refl
+
+-- a log whose submissions are made at their base versions, and a submission concurrent with its last entry
+abbrev insert_list : List ℕ → PlainSubmission
+insert_list s = from s 2 (Some 1) (edit (record { path = []; act = li 0 (list no_items) } ∷ []))
+
+abbrev empty_list : List PlainEntry
+empty_list = (decide [] (from (codes "x") 1 None (create (list no_items))) 0).log
+
+abbrev inserted_once : List PlainEntry
+inserted_once = (decide empty_list (insert_list (codes "x")) 0).log
+
+pub row_insert_made : (s : List ℕ) → IsEditMadeAtBase empty_list (insert_list s)
+row_insert_made s = record {
+  operation = record { path = []; act = li 0 (list no_items) } ∷ [];
+  edits = refl;
+  made =
+      ((record { position = list no_items; result = list (item (list no_items) no_items); found = refl; accepted = refl; key = tt }, tt), ((tt, tt), tt));
+}
+
+pub row_all_made : AreMadeAtBase inserted_once
+row_all_made = (tt, ((row_insert_made (codes "x")).made, tt))
+
+pub row_concurrent_made : IsMadeAtBase inserted_once (insert_list (codes "y"))
+row_concurrent_made = (row_insert_made (codes "y")).made
 
 -- without allocations: a duplicate, a version too new, a create on a document, an edit of an absent one, an edit
 -- against a delete; an append allocates, and so does an edit that is transformed
