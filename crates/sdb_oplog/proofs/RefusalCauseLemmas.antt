@@ -1,15 +1,13 @@
 -- The causes for which an edit that is made at its base version is refused.
-use Rattle.std.proofs.Common.{◌≡◌, ℕ, suc, ◌+◌, List, [], ◌∷◌, take, drop, Bool, true, false, cond, Option, Some, None, Result, Ok, Err, option_map, option_and_then, unwrap_or, ◌⊎◌, inl, inr, refl, sym, ap, ◌∙◌, subst}
-use Rattle.std.proofs.Math.Seq.{take-add}
+use Rattle.std.proofs.Common.{◌≡◌, ℕ, List, [], ◌∷◌, Bool, true, false, cond, Option, Some, None, Result, Ok, Err, option_map, option_and_then, ◌⊎◌, inl, inr, refl, sym, ap, ◌∙◌, subst}
 use Rattle.std.specs.Option.{is_some, option_map_or}
 use Rattle.std.specs.Result.{result_ok}
 use Rattle.sdb_value.specs.Value.{Value}
-use Rattle.sdb_value.specs.WellFormed.{IsWellFormed}
 use Rattle.sdb_component.specs.Plain.{PlainComponent}
 use Rattle.sdb_apply.specs.Apply.{apply}
 use Rattle.sdb_transform.specs.Cross.{Crossing, cross_ops}
 use Rattle.sdb_transform.specs.OperationConvergence.{AreMadeFor, SomeSumLeavesRange}
-use Rattle.sdb_transform.proofs.CrossingExistence.{crossing_of}
+use Rattle.sdb_transform.proofs.CrossingExistence.{crossing_of_runs}
 use Rattle.sdb_transform.proofs.FormedValues.{IsFormed}
 use Rattle.sdb_transform.proofs.OperationRuns.{OperationRun, MadeOrOverflows, run_formed, run_of, made_or_overflows}
 use Rattle.sdb_oplog.specs.declared.codes.Code.{Code}
@@ -19,10 +17,10 @@ use Rattle.sdb_oplog.specs.Refusal.{result_and_then}
 use Rattle.sdb_oplog.specs.Rebase.{over, rebase}
 use Rattle.sdb_oplog.specs.Snap.{apply_content, snap_from, snap, document_of, stored_at}
 use Rattle.sdb_oplog.specs.Decide.{repeated, refused, decide, append_decided, rebased_content, base_version, missed_entries, is_log_full, is_version_too_new}
-use Rattle.sdb_oplog.specs.RebasedContents.{IsContentMadeFor, AreEntriesMadeFor, IsWellFormedDocument, AreDocumentsWellFormed, base_document, AreMissedEntriesMade, RebasedEdit, SumLeavesRangeAmong, PositionLeavesRangeAmong, IsDeleteAmong, RefusalCause, log_full, version_too_new, document_deleted, position_leaves_range, sum_leaves_range, IsEditMadeAtBase, RefusalsHaveCauses, RefusalsHaveCausesIfAllMade}
-use Rattle.sdb_oplog.specs.laws.LogLaws.{append_nil, decides_repeat, decides_settled}
+use Rattle.sdb_oplog.specs.RebasedContents.{IsContentMadeFor, AreEntriesMadeFor, base_document, AreMissedEntriesMade, RebasedEdit, RebasedSumLeavesRange, PositionLeavesRangeAmong, IsDeleteAmong, RefusalCause, log_full, version_too_new, document_deleted, position_leaves_range, sum_leaves_range, IsEditMadeAtBase, RefusalsHaveCauses, RefusalsHaveCausesIfAllMade}
+use Rattle.sdb_oplog.specs.laws.LogLaws.{decides_repeat, decides_settled}
 use Rattle.sdb_oplog.specs.laws.DecidedLogLaws.{alive_of_made}
-use Rattle.sdb_oplog.proofs.RebasedContentLemmas.{IsFormedDocument, ContentRun, formed_document, content_run, rebase_run, edit_applied, edit_over_run, snap_append, snap_prefix, snap_since}
+use Rattle.sdb_oplog.proofs.RebasedContentLemmas.{IsFormedDocument, ContentRun, formed_document, content_run, rebase_run, edit_applied, edit_over_run, snap_since}
 use Rattle.sdb_oplog.proofs.MadeEntryLemmas.{entries_made, rest_made}
 
 -- ---- causes among the entries
@@ -31,7 +29,7 @@ use Rattle.sdb_oplog.proofs.MadeEntryLemmas.{entries_made, rest_made}
 data Cause (m : PlainContent) (d : Option Value) (es : List PlainEntry) (code : Code) : Type 0 where
   by_delete : code ≡ E5 → IsDeleteAmong es → Cause m d es code
   by_position : code ≡ E8 → PositionLeavesRangeAmong m d es → Cause m d es code
-  by_sum : code ≡ E8 → SumLeavesRangeAmong m d es → Cause m d es code
+  by_sum : code ≡ E8 → RebasedSumLeavesRange m d es → Cause m d es code
 
 same_code : {A : Type 0} (c code : Code) → ◌≡◌ {A = Result A Code} (Err c) (Err code) → code ≡ c
 same_code c code e = cc
@@ -64,27 +62,17 @@ module _ (op l : List PlainComponent) (x : PlainEntry) (d f : Value) (o : over (
         no_crossing = c.no_crossing;
         not_in_range = c.not_in_range;
       })
-  cause_after es code (by_sum e c) =
-      by_sum e (record { first = x ∷ c.first; rest = c.rest; parts = ap (λ l. x ∷ l) c.parts; after_first = edit_after c.first c.after_first; sum = c.sum })
+  cause_after es code (by_sum e c) = by_sum e (record { after = edit_after es c.after; sum = c.sum })
 
 -- ---- a rebase that is refused
-
--- the document after each prefix of the entries is well formed
-abbrev PrefixesWellFormed : List PlainEntry → Option Value → Type 0
-PrefixesWellFormed es d = (k : ℕ) (n : Option Value) → snap_from d (take k es) ≡ Some n → IsWellFormedDocument n
-
-prefixes_after : (x : PlainEntry) (es : List PlainEntry) (d n : Option Value) → apply_content x.content d ≡ Ok n → PrefixesWellFormed (x ∷ es) d → PrefixesWellFormed es n
-prefixes_after x es d n a w k m h = w (suc k) m (ap (λ r. option_and_then (λ m. snap_from m (take k es)) (result_ok r)) a ∙ h)
 
 crossing_not_none : (L R : List PlainComponent) → cross_ops L R ≡ None → (x : Crossing PlainComponent) × (cross_ops L R ≡ Some x) → ⊥
 crossing_not_none L R e x = let bad : None ≡ Some x.0 = sym e ∙ x.1 in cc
 
 -- an edit whose transform against the next entry is refused
-refused_here : (op other : List PlainComponent) (x : PlainEntry) (es : List PlainEntry) (code : Code) (d e : Value) → code ≡ E8 → x.content ≡ edit other → cross_ops op other ≡ None
-    → IsWellFormed d → AreMadeFor other d → MadeOrOverflows op d e → Cause (edit op) (Some d) (x ∷ es) code
-refused_here op other x es code d e c is none w b (inr o) =
-    by_sum c (record { first = []; rest = x ∷ es; parts = refl; after_first = edit_here op d; sum = o })
-refused_here op other x es code d e c is none w b (inl m) =
+refused_here : (op other : List PlainComponent) (x : PlainEntry) (es : List PlainEntry) (code : Code) (d e f : Value) → code ≡ E8 → x.content ≡ edit other → cross_ops op other ≡ None
+    → IsFormed d → OperationRun op d e → OperationRun other d f → Cause (edit op) (Some d) (x ∷ es) code
+refused_here op other x es code d e f c is none w a b =
     by_position c
     (record {
       first = [];
@@ -95,22 +83,23 @@ refused_here op other x es code d e c is none w b (inl m) =
       edits = is;
       after_first = edit_here op d;
       no_crossing = none;
-      not_in_range = λ i j. crossing_not_none op other none (crossing_of d op other w m.made b i j);
+      not_in_range = λ i j. crossing_not_none op other none (crossing_of_runs d e f op other w a b i j);
     })
 
 -- of an edit, by the crossing with the next entry's operation
 abbrev RefusedAfter : List PlainEntry → Code → Type 0
 RefusedAfter es code =
-    (op : List PlainComponent) (d e : Value) → IsFormed d → OperationRun op d e → AreEntriesMadeFor es (Some d) → PrefixesWellFormed es (Some d)
+    (op : List PlainComponent) (d e : Value) → IsFormed d → OperationRun op d e → AreEntriesMadeFor es (Some d)
     → rebase (edit op) es ≡ Err code → Cause (edit op) (Some d) es code
 
 module _ (x : PlainEntry) (es : List PlainEntry) (code : Code) (below : RefusedAfter es code) (op : List PlainComponent) (d e : Value) (f : IsFormed d) (run : OperationRun op d e)
-    (w : PrefixesWellFormed (x ∷ es) (Some d)) (h : rebase (edit op) (x ∷ es) ≡ Err code) (n : Option Value) (a : apply_content x.content (Some d) ≡ Ok n)
+    (h : rebase (edit op) (x ∷ es) ≡ Err code) (n : Option Value) (a : apply_content x.content (Some d) ≡ Ok n)
     (rest : AreEntriesMadeFor es n) where
   refused_by_crossing : (other : List PlainComponent) (o : Option (Crossing PlainComponent)) → x.content ≡ edit other → AreMadeFor other d → cross_ops op other ≡ o → Cause (edit op) (Some d) (x ∷ es) code
   refused_by_crossing other None is b none =
       let over_is : over (edit op) x.content ≡ Err E8 = ap (over (edit op)) is ∙ ap (λ o. option_map_or (λ c. Ok (edit c)) (option_map (λ y. y.left) o) (Err E8)) none in
-      refused_here op other x es code d e (same_code E8 code (sym (ap (result_and_then (λ k. rebase k es)) over_is) ∙ h)) is none (w 0 (Some d) refl) b (made_or_overflows op d e run)
+      let r = run_of other d b in
+      refused_here op other x es code d e r.result (same_code E8 code (sym (ap (result_and_then (λ k. rebase k es)) over_is) ∙ h)) is none f run r.run
   refused_by_crossing other (Some y) is b some =
       let over_is : over (edit op) x.content ≡ Ok (edit y.left) = ap (over (edit op)) is ∙ ap (λ o. option_map_or (λ c. Ok (edit c)) (option_map (λ y. y.left) o) (Err E8)) some in
       let r = run_of other d b in
@@ -120,7 +109,7 @@ module _ (x : PlainEntry) (es : List PlainEntry) (code : Code) (below : RefusedA
       let rest2 = subst (AreEntriesMadeFor es) (sym after) rest in
       let h2 : rebase (edit y.left) es ≡ Err code = sym (ap (result_and_then (λ k. rebase k es)) over_is) ∙ h in
       cause_after op y.left x d r.result over_is a2 es code
-      (below y.left r.result left.0 (run_formed other d r.result f r.run) left.1 rest2 (prefixes_after x es (Some d) (Some r.result) a2 w) h2)
+      (below y.left r.result left.0 (run_formed other d r.result f r.run) left.1 rest2 h2)
 
   refused_by_content : (c : PlainContent) → x.content ≡ c → IsContentMadeFor c (Some d) → Cause (edit op) (Some d) (x ∷ es) code
   refused_by_content (create v) is b = let bad : Err E6 ≡ Ok n = ap (λ c. apply_content c (Some d)) (sym is) ∙ a in cc
@@ -131,9 +120,9 @@ module _ (x : PlainEntry) (es : List PlainEntry) (code : Code) (below : RefusedA
   refused_by_content (edit other) is b = refused_by_crossing other (cross_ops op other) is b refl
 
 rebase_refused : (es : List PlainEntry) (code : Code) → RefusedAfter es code
-rebase_refused [] code op d e f run made w h = cc
-rebase_refused (x ∷ es) code op d e f run made w h =
-    refused_by_content x es code (rebase_refused es code) op d e f run w h made.1 made.2 made.3 x.content refl made.0
+rebase_refused [] code op d e f run made h = cc
+rebase_refused (x ∷ es) code op d e f run made h =
+    refused_by_content x es code (rebase_refused es code) op d e f run h made.1 made.2 made.3 x.content refl made.0
 
 -- ---- a rebased edit that isn't applied
 
@@ -179,14 +168,7 @@ apply_refused es code op k d e after f run made s h refuses =
     let r = edit_run o.0 after (subst (λ c. ContentRun c after) o.1 (rebase_run es (edit op) k (Some d) after f (e, run) made h s).run) in
     let refuses2 : apply_content (edit o.0) (Some r.document) ≡ Err code = ap (λ c. apply_content c (Some r.document)) (sym o.1) ∙ ap (apply_content k) (sym r.is) ∙ refuses in
     let sum = refused_by_sum o.0 r.document r.end code refuses2 (made_or_overflows o.0 r.document r.end r.run) in
-    by_sum sum.0
-    (record {
-      first = es;
-      rest = [];
-      parts = sym (append_nil es);
-      after_first = record { operation = o.0; document = r.document; rebased = h ∙ ap Ok o.1; replayed = s ∙ ap Some r.is };
-      sum = sum.1;
-    })
+    by_sum sum.0 (record { after = record { operation = o.0; document = r.document; rebased = h ∙ ap Ok o.1; replayed = s ∙ ap Some r.is }; sum = sum.1 })
 
 -- ---- a submission that is refused
 
@@ -194,14 +176,6 @@ cause_of : (log : List PlainEntry) (s : PlainSubmission) (code : Code) → Cause
 cause_of log s code (by_delete e c) = document_deleted e c
 cause_of log s code (by_position e c) = position_leaves_range e c
 cause_of log s code (by_sum e c) = sum_leaves_range e c
-
--- the documents after prefixes of the missed entries are documents of the log
-missed_prefixes : (log : List PlainEntry) (v : ℕ) → is_some (snap log) ≡ true → AreDocumentsWellFormed log → PrefixesWellFormed (drop v log) (document_of (take v log))
-missed_prefixes log v alive w k n h =
-    let is : snap (take (v + k) log) ≡ Some n =
-    ap snap (take-add v k log) ∙ snap_append (take v log) (take k (drop v log)) None
-    ∙ ap (option_and_then (λ m. snap_from m (take k (drop v log)))) (snap_prefix log v alive) ∙ h in
-    subst IsWellFormedDocument (ap (λ o. unwrap_or o None) is) (w (v + k))
 
 -- by the result of the rebase, and by the tests before it
 module _ (log : List PlainEntry) (s : PlainSubmission) (code : Code) where
@@ -240,11 +214,11 @@ not_edit m op e (inl h) = let bad : edit op ≡ delete = sym e ∙ h in cc
 not_edit m op e (inr h) = let bad : edit op ≡ create h.0 = sym e ∙ h.1 in cc
 
 rebase_causes : (es : List PlainEntry) (m : PlainContent) (b : Option Value) (op : List PlainComponent) (code : Code) → m ≡ edit op → ContentRun m b → IsFormedDocument b → AreEntriesMadeFor es b
-    → PrefixesWellFormed es b → rebase m es ≡ Err code → Cause m b es code
-rebase_causes es (create v) b op code is run f made w h = absurd (not_edit (create v) op is (inr (v, refl)))
-rebase_causes es delete b op code is run f made w h = absurd (not_edit delete op is (inl refl))
-rebase_causes es (edit o) None op code is run f made w h = absurd run
-rebase_causes es (edit o) (Some d) op code is run f made w h = rebase_refused es code o d run.0 f run.1 made w h
+    → rebase m es ≡ Err code → Cause m b es code
+rebase_causes es (create v) b op code is run f made h = absurd (not_edit (create v) op is (inr (v, refl)))
+rebase_causes es delete b op code is run f made h = absurd (not_edit delete op is (inl refl))
+rebase_causes es (edit o) None op code is run f made h = absurd run
+rebase_causes es (edit o) (Some d) op code is run f made h = rebase_refused es code o d run.0 f run.1 made h
 
 apply_causes : (es : List PlainEntry) (m k : PlainContent) (b after : Option Value) (op : List PlainComponent) (code : Code) → m ≡ edit op → ContentRun m b → IsFormedDocument b → AreEntriesMadeFor es b
     → snap_from b es ≡ Some after → rebase m es ≡ Ok k → apply_content k after ≡ Err code → Cause m b es code
@@ -253,25 +227,25 @@ apply_causes es delete k b after op code is run f made s h refuses = absurd (not
 apply_causes es (edit o) k None after op code is run f made s h refuses = absurd run
 apply_causes es (edit o) k (Some d) after op code is run f made s h refuses = apply_refused es code o k d run.0 after f run.1 made s h refuses
 
-refusals : (log : List PlainEntry) (s : PlainSubmission) (now : ℕ) (code : Code) → is_some (snap log) ≡ true → AreDocumentsWellFormed log
+refusals : (log : List PlainEntry) (s : PlainSubmission) (now : ℕ) (code : Code) → is_some (snap log) ≡ true → IsFormedDocument (base_document log s)
     → AreMissedEntriesMade log s → IsEditMadeAtBase log s → (decide log s now).reply ≡ refused code → RefusalCause log s code
-refusals log s now code alive w made a h =
+refusals log s now code alive f made a h =
     let v = base_version log s in
     let b = base_document log s in
     let es = missed_entries log s in
-    let f = formed_document b (w v) in
     let run = content_run s.content b a.made in
     let err = refused_by_decide log s now code (stored_at s.src s.seq log) refl h in
     refused_settled log s code (is_log_full log) (is_version_too_new log s) (rebase s.content es) refl refl
     (refused_result log s code (rebase s.content es)
-    (λ c e. rebase_causes es s.content b a.operation c a.edits run f made (missed_prefixes log v alive w) e)
+    (λ c e. rebase_causes es s.content b a.operation c a.edits run f made e)
     (λ k c e g. apply_causes es s.content k b (document_of log) a.operation c a.edits run f made (snap_since log v alive) e g))
     err
 
 pub refusals_have_causes : RefusalsHaveCauses
-refusals_have_causes log s now code made w missed a h = refusals log s now code (alive_of_made log made) w missed a h
+refusals_have_causes log s now code made f missed a h = refusals log s now code (alive_of_made log made) (formed_document (base_document log s) f) missed a h
 
 pub refusals_have_causes_if_all_made : RefusalsHaveCausesIfAllMade
-refusals_have_causes_if_all_made log s now code made w all a h =
+refusals_have_causes_if_all_made log s now code made all a h =
     let alive = alive_of_made log made in
-    refusals log s now code alive w (rest_made log (base_version log s) alive (entries_made log made all)).made a h
+    let rest = rest_made log (base_version log s) alive (entries_made log made all) in
+    refusals log s now code alive rest.formed rest.made a h

@@ -36,10 +36,6 @@ abbrev pub IsWellFormedDocument : Option Value → Type 0
 IsWellFormedDocument None = ⊤
 IsWellFormedDocument (Some d) = IsWellFormed d
 
--- the document at each version is well formed, as each document of a server is
-abbrev pub AreDocumentsWellFormed : List PlainEntry → Type 0
-AreDocumentsWellFormed log = (version : ℕ) → IsWellFormedDocument (document_of (take version log))
-
 -- ---- rebased contents
 
 -- the content is an edit that adds to a number of the document, and the sum leaves the range
@@ -108,13 +104,10 @@ pub record RebasedEdit (m : PlainContent) (d : Option Value) (es : List PlainEnt
   pub rebased : rebase m es ≡ Ok (edit operation)
   pub replayed : snap_from d es ≡ Some (Some document)
 
--- rebased on the first of the entries, or on all of them, the edit adds to a number, and the sum leaves the range
-pub record SumLeavesRangeAmong (m : PlainContent) (d : Option Value) (es : List PlainEntry) : Type 0 where
-  pub first : List PlainEntry
-  pub rest : List PlainEntry
-  pub parts : es ≡ first ++ rest
-  pub after_first : RebasedEdit m d first
-  pub sum : SomeSumLeavesRange after_first.operation after_first.document
+-- rebased on the entries, the edit adds to a number of the document after them, and the sum leaves the range
+pub record RebasedSumLeavesRange (m : PlainContent) (d : Option Value) (es : List PlainEntry) : Type 0 where
+  pub after : RebasedEdit m d es
+  pub sum : SomeSumLeavesRange after.operation after.document
 
 -- rebased on the first of the entries, the edit can't be transformed against the next one, and a position may leave the
 -- range
@@ -149,7 +142,7 @@ pub data RefusalCause (log : List PlainEntry) (s : PlainSubmission) (code : Code
       code ≡ E8 → PositionLeavesRangeAmong s.content (base_document log s) (missed_entries log s)
       → RefusalCause log s code
   sum_leaves_range :
-      code ≡ E8 → SumLeavesRangeAmong s.content (base_document log s) (missed_entries log s) → RefusalCause log s code
+      code ≡ E8 → RebasedSumLeavesRange s.content (base_document log s) (missed_entries log s) → RefusalCause log s code
 
 -- the submission is an edit, made at its base version
 pub record IsEditMadeAtBase (log : List PlainEntry) (s : PlainSubmission) : Type 0 where
@@ -160,12 +153,12 @@ pub record IsEditMadeAtBase (log : List PlainEntry) (s : PlainSubmission) : Type
 -- of a made log whose missed entries are made, a made edit is refused only for one of the causes
 abbrev pub RefusalsHaveCauses : Type 0
 RefusalsHaveCauses =
-    (log : List PlainEntry) (s : PlainSubmission) (now : ℕ) (code : Code) → IsMade log → AreDocumentsWellFormed log
-    → AreMissedEntriesMade log s → IsEditMadeAtBase log s → (decide log s now).reply ≡ refused code
-    → RefusalCause log s code
+    (log : List PlainEntry) (s : PlainSubmission) (now : ℕ) (code : Code) → IsMade log
+    → IsWellFormedDocument (base_document log s) → AreMissedEntriesMade log s → IsEditMadeAtBase log s
+    → (decide log s now).reply ≡ refused code → RefusalCause log s code
 
 -- the same if each submission of the log was made at its base version
 abbrev pub RefusalsHaveCausesIfAllMade : Type 0
 RefusalsHaveCausesIfAllMade =
-    (log : List PlainEntry) (s : PlainSubmission) (now : ℕ) (code : Code) → IsMade log → AreDocumentsWellFormed log
-    → AreMadeAtBase log → IsEditMadeAtBase log s → (decide log s now).reply ≡ refused code → RefusalCause log s code
+    (log : List PlainEntry) (s : PlainSubmission) (now : ℕ) (code : Code) → IsMade log → AreMadeAtBase log
+    → IsEditMadeAtBase log s → (decide log s now).reply ≡ refused code → RefusalCause log s code

@@ -123,10 +123,13 @@ crossing_in (suc n) (l ∷ L) (r ∷ R) h d e f wf a b i j =
     both_crossings n l r L R p.left p.right a.0 b.0 p.result e f (crossing_in n) h p.on_left p.on_right (transformed_within Left l r p.left p.on_left) (transformed_within Right r l p.right p.on_right)
     after_l after_r (run_formed p.left b.0 p.result after_r p.left_run) p.left_run p.right_run a.2 b.2 i j
 
-pub crossing_of : (d : Value) (L R : List PlainComponent) → IsWellFormed d → AreMadeFor L d → AreMadeFor R d → AllStayInRange L R → AllStayInRange R L → (x : Crossing PlainComponent) × (cross_ops L R ≡ Some x)
+-- of operations that are made for d apart from the range of sums
+pub crossing_of_runs : (d e f : Value) (L R : List PlainComponent) → IsFormed d → OperationRun L d e → OperationRun R d f → AllStayInRange L R → AllStayInRange R L → (x : Crossing PlainComponent) × (cross_ops L R ≡ Some x)
 unfolding cross
+crossing_of_runs d e f L R wf a b i j = let x = crossing_in (sum_weight component_weight L + sum_weight component_weight R) L R (omega arith) d e f wf a b i j in (x.crossing, x.is)
+
+pub crossing_of : (d : Value) (L R : List PlainComponent) → IsWellFormed d → AreMadeFor L d → AreMadeFor R d → AllStayInRange L R → AllStayInRange R L → (x : Crossing PlainComponent) × (cross_ops L R ≡ Some x)
 crossing_of d L R wf a b i j =
     let l = run_of L d a in
     let r = run_of R d b in
-    let x = crossing_in (sum_weight component_weight L + sum_weight component_weight R) L R (omega arith) d l.result r.result (formed_of d wf) l.run r.run i j in
-    (x.crossing, x.is)
+    crossing_of_runs d l.result r.result L R (formed_of d wf) l.run r.run i j
