@@ -6,7 +6,8 @@
     asyncio.create_task(client.run())
     board.submit([{"p": ["votes"], "na": 1}])
 
-As a program, examples/client.py ws://127.0.0.1:8080 COLLECTION ID, it prints a document at each change.
+As a program, examples/client.py ws://127.0.0.1:8080 COLLECTION ID [BUCKETS], it prints a document at each change. BUCKETS is the
+number of servers that share the documents (docs/SCALING.md).
 """
 import asyncio
 import functools
@@ -14,6 +15,7 @@ import json
 import random
 import secrets
 import sys
+import zlib
 
 import websockets
 
@@ -394,7 +396,37 @@ class Client:
             await self.socket.send(await self.outgoing.get())
 
 
+class Cluster:
+    """Clients of servers that share the documents: a document is at the server of bucket crc32(name) % buckets."""
+
+    def __init__(self, url, buckets, source=None, first_pause=FIRST_PAUSE):
+        self.url, self.buckets, self.source, self.first_pause = url, buckets, source or secrets.token_hex(16), first_pause
+        self.clients, self.is_open = {}, True
+
+    def client(self, name):
+        bucket = zlib.crc32(name.encode()) % self.buckets
+        if bucket not in self.clients:
+            self.clients[bucket] = Client(f"{self.url}/b/{bucket}", self.source, self.first_pause)
+        return self.clients[bucket]
+
+    def document(self, collection, name, *listeners):
+        return self.client(name).document(collection, name, *listeners)
+
+    def close(self):
+        self.is_open = False
+        for client in self.clients.values():
+            client.close()
+
+    async def run(self):
+        """Runs the clients, also those of documents that are opened meanwhile."""
+        tasks = {}
+        while self.is_open:
+            tasks.update((it, asyncio.create_task(it.run())) for it in self.clients.values() if it not in tasks)
+            await asyncio.sleep(0.05)
+        await asyncio.gather(*tasks.values())
+
+
 if __name__ == "__main__":
-    program = Client(sys.argv[1])
+    program = Cluster(sys.argv[1], int(sys.argv[4])) if sys.argv[4:] else Client(sys.argv[1])
     program.document(*sys.argv[2:4], lambda it: print(it.version, "-" if it.shown is ABSENT else json.dumps(it.shown), flush=True))
     asyncio.run(program.run())

@@ -22,10 +22,12 @@ var Navirotsohy = (() => {
   var src_exports = {};
   __export(src_exports, {
     Client: () => Client,
+    Cluster: () => Cluster,
     Doc: () => Doc,
     Emitter: () => Emitter,
     Refusal: () => Refusal,
     apply: () => apply,
+    bucketOf: () => bucketOf,
     complete: () => complete,
     compose: () => compose,
     cross: () => cross,
@@ -963,8 +965,8 @@ var Navirotsohy = (() => {
       if (this.canAdvance)
         return;
       if (!this.wanted && this.isToChange) {
-        const leave = { kind: "u", from: null, purpose: "leave", waiters: this.leavers.splice(0), listed: [] };
-        this.sendRequest(leave);
+        const leave2 = { kind: "u", from: null, purpose: "leave", waiters: this.leavers.splice(0), listed: [] };
+        this.sendRequest(leave2);
       }
       if (this.state !== "live")
         return;
@@ -1931,6 +1933,15 @@ var Navirotsohy = (() => {
   function refusalOf(message) {
     return new Refusal(message.error.code, message.error.message);
   }
+  function completeOptions(options) {
+    const { source = randomSource(), WebSocket = globalThis["WebSocket"] } = options;
+    if (typeof WebSocket !== "function") {
+      throw new Error("there is no WebSocket here: hand one over, as new Client(address, { WebSocket: require('ws') })");
+    }
+    if (!isName(source))
+      throw new Error("a source is a text of 1 to 200 bytes");
+    return { ...options, source, WebSocket };
+  }
   var Client = class extends Emitter {
     /**
      * @param {string | (() => string)} address as `ws://127.0.0.1:8080`; a function is called at each attempt, so that it
@@ -1939,13 +1950,7 @@ var Navirotsohy = (() => {
      */
     constructor(address, options = {}) {
       super();
-      const { source = randomSource(), WebSocket = globalThis["WebSocket"] } = options;
-      if (typeof WebSocket !== "function") {
-        throw new Error("there is no WebSocket here: hand one over, as new Client(address, { WebSocket: require('ws') })");
-      }
-      if (!isName(source))
-        throw new Error("a source is a text of 1 to 200 bytes");
-      const connection = new Connection(this, address, { ...options, source, WebSocket });
+      const connection = new Connection(this, address, completeOptions(options));
       Object.defineProperty(this, "_client", { value: () => connection });
       if (options.connect !== false)
         this.connect();
@@ -2064,6 +2069,8 @@ var Navirotsohy = (() => {
       this.requested = 0;
       this.requests = /* @__PURE__ */ new Map();
       this.documents = /* @__PURE__ */ new Map();
+      this.becameIdle = () => {
+      };
       this.transport = {
         source: this.source,
         clock: this.clock,
@@ -2073,8 +2080,11 @@ var Navirotsohy = (() => {
         compare: (c, d, v, receive) => this.request({ a: "nf", c, d, v }, true, receive),
         snapshot: (c, d, v) => this.snapshot({ a: "nf", c, d, v }),
         snapshotAtTime: (c, d, ts) => this.snapshot({ a: "nt", c, d, ts }),
-        forget: ({ collection, id }) => this.documents.delete(keyOf(collection, id))
+        forget: (doc) => this.forget(doc)
       };
+    }
+    get isIdle() {
+      return this.documents.size === 0 && this.requests.size === 0;
     }
     // Calls --------------------------------------------------------------------------------------------------------
     connect() {
@@ -2117,6 +2127,11 @@ var Navirotsohy = (() => {
       keep(core);
       return core.doc;
     }
+    forget({ collection, id }) {
+      this.documents.delete(keyOf(collection, id));
+      if (this.isIdle)
+        this.becameIdle();
+    }
     snapshot(message) {
       if (this.state === "closed")
         return Promise.reject(new Refusal("ERR_CLOSED"));
@@ -2141,6 +2156,8 @@ var Navirotsohy = (() => {
         return;
       }
       this.requests.delete(message.id);
+      if (this.isIdle)
+        this.becameIdle();
       if (message.error)
         request.receive({ error: refusalOf(message) });
       else
@@ -2149,6 +2166,8 @@ var Navirotsohy = (() => {
     rejectRequests(error) {
       const requests = [...this.requests.values()];
       this.requests.clear();
+      if (this.isIdle)
+        this.becameIdle();
       for (const { receive } of requests)
         receive({ error });
     }
@@ -2320,6 +2339,236 @@ var Navirotsohy = (() => {
     if (a !== "op")
       return true;
     return Number.isSafeInteger(v) && v >= 0 && (op === void 0 || Array.isArray(op));
+  }
+
+  // src/cluster.js
+  var POLYNOMIAL = 3988292384;
+  var WORST_FIRST = ["failed", "disconnected", "connecting", "connected"];
+  function bucketOf(id, buckets) {
+    let rest = -1;
+    for (const byte of new TextEncoder().encode(id)) {
+      rest ^= byte;
+      for (let bit = 0; bit < 8; bit += 1)
+        rest = rest >>> 1 ^ (rest & 1 ? POLYNOMIAL : 0);
+    }
+    return (~rest >>> 0) % buckets;
+  }
+  var Cluster = class extends Emitter {
+    /**
+     * @param {string | ((bucket: number) => string)} address of which bucket N has the address `address/b/N`; a function
+     * returns the whole address of a bucket, and is called at each attempt
+     * @param {number} buckets how many there are: the same number in all clients
+     * @param {ClusterOptions} [options]
+     */
+    constructor(address, buckets, options = {}) {
+      super();
+      if (!Number.isSafeInteger(buckets) || buckets < 1)
+        throw new Error("the number of buckets is a whole number from 1 on");
+      const { connect = true, idleDelay = 1e4, clock = PLATFORM, ...others } = completeOptions(options);
+      const core = {
+        cluster: this,
+        address,
+        buckets,
+        options: { ...others, clock, connect: false },
+        clock,
+        idleDelay,
+        wanted: connect,
+        isClosed: false,
+        closing: null,
+        connections: /* @__PURE__ */ new Map()
+        // by bucket; one that is closed stays, since it counts the edits of its source
+      };
+      Object.defineProperty(this, "_cluster", { value: () => core });
+    }
+    /**
+     * The base address.
+     * @returns {string | ((bucket: number) => string)}
+     */
+    get address() {
+      return coreOf2(this).address;
+    }
+    /** @returns {number} */
+    get buckets() {
+      return coreOf2(this).buckets;
+    }
+    /**
+     * The source of the edits in all buckets.
+     * @returns {string}
+     */
+    get source() {
+      return coreOf2(this).options.source;
+    }
+    /**
+     * The connections in use, by bucket.
+     * @returns {BucketState[]}
+     */
+    get states() {
+      return inUse(this).map(({ bucket, client: { state, error, closing } }) => ({ bucket, state, error, closing }));
+    }
+    /**
+     * The first of 'failed', 'disconnected' and 'connecting' that a connection in use has, or else 'connected'.
+     * @returns {ClientState}
+     */
+    get state() {
+      const { isClosed, wanted } = coreOf2(this);
+      if (isClosed)
+        return "closed";
+      const states = inUse(this).map(({ client }) => client.state);
+      return WORST_FIRST.find((state) => states.includes(state)) || (wanted ? "connected" : "disconnected");
+    }
+    /**
+     * Why a connection in use has failed.
+     * @returns {Refusal | null}
+     */
+    get error() {
+      const failed = inUse(this).find(({ client }) => client.error !== null);
+      return failed ? failed.client.error : null;
+    }
+    /**
+     * Why the last connection, or the last attempt, ended.
+     * @returns {Closing & {bucket: number} | null}
+     */
+    get closing() {
+      return coreOf2(this).closing;
+    }
+    /**
+     * Whether an edit of any document waits for more than two seconds.
+     * @returns {boolean}
+     */
+    get waiting() {
+      return clientsOf(this).some(({ waiting }) => waiting);
+    }
+    /**
+     * The bucket of the documents with this id.
+     * @param {string} id
+     * @returns {number}
+     */
+    bucketOf(id) {
+      return bucketOf(id, this.buckets);
+    }
+    /** Connects to the buckets in use, and from now on to those that are needed. */
+    connect() {
+      const core = coreOf2(this);
+      if (core.isClosed)
+        throw new Refusal("ERR_CLOSED");
+      core.wanted = true;
+      for (const { client } of inUse(this))
+        client.connect();
+    }
+    /** Closes all connections. What is submitted from now on is sent after the next `connect`. */
+    disconnect() {
+      coreOf2(this).wanted = false;
+      for (const client of clientsOf(this))
+        client.disconnect();
+    }
+    /** Closes all connections and all documents for good. Pending edits are dropped, and fail with ERR_CLOSED. */
+    close() {
+      const core = coreOf2(this);
+      core.isClosed = true;
+      for (const connection of core.connections.values()) {
+        setTimer(core, connection, null);
+        connection.client.close();
+      }
+    }
+    /**
+     * The document of this collection and id, the same object until it is destroyed.
+     * @template [T=any]
+     * @param {string} collection or the name of a projection, which has some fields only
+     * @param {string} id
+     * @returns {import('./doc.js').Doc<T>}
+     */
+    document(collection, id) {
+      const core = coreOf2(this);
+      if (core.isClosed)
+        throw new Refusal("ERR_CLOSED");
+      const connection = connectionFor(core, id);
+      const doc = connection.client.document(collection, id);
+      use(core, connection);
+      return doc;
+    }
+    /**
+     * A document at a version.
+     * @param {string} collection
+     * @param {string} id
+     * @param {number | null} [version] the present one by default
+     * @returns {Promise<import('./doc.js').Snapshot>}
+     */
+    snapshot(collection, id, version = null) {
+      return requested(this, id, (client) => client.snapshot(collection, id, version));
+    }
+    /**
+     * A document at a time of the clock of its bucket's server.
+     * @param {string} collection
+     * @param {string} id
+     * @param {number | null} [moment] in milliseconds since 1970; the present version without one
+     * @returns {Promise<import('./doc.js').Snapshot>}
+     */
+    snapshotAtTime(collection, id, moment = null) {
+      return requested(this, id, (client) => client.snapshotAtTime(collection, id, moment));
+    }
+    /** @returns {Promise<void>} is fulfilled when nothing is pending in any document */
+    async whenNothingPending() {
+      await Promise.all(clientsOf(this).map((client) => client.whenNothingPending()));
+    }
+  };
+  function coreOf2(cluster) {
+    return cluster._cluster();
+  }
+  function clientsOf(cluster) {
+    return [...coreOf2(cluster).connections.values()].map(({ client }) => client);
+  }
+  function inUse(cluster) {
+    const connections = [...coreOf2(cluster).connections.values()].filter(({ isUsed }) => isUsed);
+    return connections.sort((one, other) => one.bucket - other.bucket);
+  }
+  function addressOf({ address }, bucket) {
+    return typeof address === "function" ? () => address(bucket) : `${address.replace(/\/$/, "")}/b/${bucket}`;
+  }
+  function connectionFor(core, id) {
+    const bucket = bucketOf(id, core.buckets);
+    if (!core.connections.has(bucket))
+      core.connections.set(bucket, newConnection(core, bucket));
+    return core.connections.get(bucket);
+  }
+  function newConnection(core, bucket) {
+    const { cluster } = core;
+    const client = new Client(addressOf(core, bucket), core.options);
+    const connection = { bucket, client, isUsed: false, timer: null };
+    client.on("state", (state) => cluster.emit("state", { bucket, state }));
+    client.on("error", (error) => cluster.emit("error", { bucket, error }));
+    client.on("close", (closing) => {
+      core.closing = { bucket, ...closing };
+      cluster.emit("close", core.closing);
+    });
+    connectionOf(client).becameIdle = () => setTimer(core, connection, () => leave(connection));
+    return connection;
+  }
+  function use(core, connection) {
+    setTimer(core, connection, null);
+    if (connection.isUsed)
+      return;
+    connection.isUsed = true;
+    if (core.wanted)
+      connection.client.connect();
+  }
+  function leave(connection) {
+    connection.isUsed = false;
+    connection.client.disconnect();
+  }
+  function setTimer(core, connection, action) {
+    const { clock, idleDelay, isClosed } = core;
+    if (connection.timer !== null)
+      clock.clearTimeout(connection.timer);
+    connection.timer = action === null || isClosed ? null : clock.setTimeout(action, idleDelay);
+  }
+  function requested(cluster, id, request) {
+    const core = coreOf2(cluster);
+    if (core.isClosed)
+      return Promise.reject(new Refusal("ERR_CLOSED"));
+    const connection = connectionFor(core, id);
+    const answer = request(connection.client);
+    use(core, connection);
+    return answer;
   }
 
   // src/ot/text.js

@@ -61,8 +61,8 @@ const PROTOCOL = 1;
 
 const NOTHING = { code: 1006, reason: '' };
 
-/** @type {Clock} */
-const PLATFORM = {
+/** @type {Clock} @internal */
+export const PLATFORM = {
   now: () => Date.now(),
   setTimeout: (action, delay) => setTimeout(action, delay),
   clearTimeout: (timer) => clearTimeout(timer),
@@ -82,6 +82,16 @@ function refusalOf(message) {
   return new Refusal(message.error.code, message.error.message);
 }
 
+/** Returns the options with a source and a class, or throws. @internal */
+export function completeOptions(options) {
+  const { source = randomSource(), WebSocket = globalThis['WebSocket'] } = options;
+  if (typeof WebSocket !== 'function') {
+    throw new Error("there is no WebSocket here: hand one over, as new Client(address, { WebSocket: require('ws') })");
+  }
+  if (!isName(source)) throw new Error('a source is a text of 1 to 200 bytes');
+  return { ...options, source, WebSocket };
+}
+
 /**
  * A connection to the server, opened at once and reopened if it is lost, and the documents over it.
  * @extends {Emitter<ClientEvents>}
@@ -94,12 +104,7 @@ export class Client extends Emitter {
    */
   constructor(address, options = {}) {
     super();
-    const { source = randomSource(), WebSocket = globalThis['WebSocket'] } = options;
-    if (typeof WebSocket !== 'function') {
-      throw new Error("there is no WebSocket here: hand one over, as new Client(address, { WebSocket: require('ws') })");
-    }
-    if (!isName(source)) throw new Error('a source is a text of 1 to 200 bytes');
-    const connection = new Connection(this, address, { ...options, source, WebSocket });
+    const connection = new Connection(this, address, completeOptions(options));
     Object.defineProperty(this, '_client', { value: () => connection });
     if (options.connect !== false) this.connect();
   }
@@ -200,7 +205,8 @@ export class Client extends Emitter {
   }
 }
 
-function connectionOf(client) {
+/** @internal */
+export function connectionOf(client) {
   return client._client();
 }
 
@@ -232,6 +238,7 @@ class Connection {
     this.requested = 0; // of the last requested snapshot
     this.requests = new Map(); // requested snapshots, by number: { text, isOwn, receive }
     this.documents = new Map();
+    this.becameIdle = () => {}; // called when there is no document and no requested snapshot any more
     this.transport = {
       source: this.source,
       clock: this.clock,
@@ -241,8 +248,12 @@ class Connection {
       compare: (c, d, v, receive) => this.request({ a: 'nf', c, d, v }, true, receive),
       snapshot: (c, d, v) => this.snapshot({ a: 'nf', c, d, v }),
       snapshotAtTime: (c, d, ts) => this.snapshot({ a: 'nt', c, d, ts }),
-      forget: ({ collection, id }) => this.documents.delete(keyOf(collection, id)),
+      forget: (doc) => this.forget(doc),
     };
+  }
+
+  get isIdle() {
+    return this.documents.size === 0 && this.requests.size === 0;
   }
 
   // Calls --------------------------------------------------------------------------------------------------------
@@ -284,6 +295,11 @@ class Connection {
     return core.doc;
   }
 
+  forget({ collection, id }) {
+    this.documents.delete(keyOf(collection, id));
+    if (this.isIdle) this.becameIdle();
+  }
+
   snapshot(message) {
     if (this.state === 'closed') return Promise.reject(new Refusal('ERR_CLOSED'));
     return new Promise((resolve, reject) => {
@@ -309,6 +325,7 @@ class Connection {
       return;
     }
     this.requests.delete(message.id);
+    if (this.isIdle) this.becameIdle();
     if (message.error) request.receive({ error: refusalOf(message) });
     else request.receive({ snapshot: { version: message.v, data: dataOf(message) } });
   }
@@ -316,6 +333,7 @@ class Connection {
   rejectRequests(error) {
     const requests = [...this.requests.values()];
     this.requests.clear();
+    if (this.isIdle) this.becameIdle();
     for (const { receive } of requests) receive({ error });
   }
 

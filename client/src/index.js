@@ -11,6 +11,7 @@
  *     await board.submit([{ p: ['votes'], na: 1 }]);
  * @module
  */
+export { Cluster, bucketOf } from './cluster.js';
 export { Client } from './connection.js';
 export { Doc } from './doc.js';
 export { Emitter } from './emitter.js';
@@ -27,6 +28,9 @@ export { apply, complete, compose, cross, invert, textChange, transformComponent
 /** @typedef {import('./doc.js').DocState} DocState */
 /** @typedef {import('./doc.js').Seen} Seen */
 /** @typedef {import('./doc.js').SubmitOptions} SubmitOptions */
+/** @typedef {import('./cluster.js').BucketState} BucketState */
+/** @typedef {import('./cluster.js').ClusterEvents} ClusterEvents */
+/** @typedef {import('./cluster.js').ClusterOptions} ClusterOptions */
 /** @typedef {import('./connection.js').Clock} Clock */
 /** @typedef {import('./connection.js').Closing} Closing */
 /** @typedef {import('./connection.js').CloseReason} CloseReason */

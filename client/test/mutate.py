@@ -25,7 +25,8 @@ PATIENCE = 30  # seconds for the tests of one change
 # The test files by the folder of the changed file, the one that detects the most first.
 TESTS = {
     "ot/": ["ot.test.js", "faults.test.js", "cases.test.js"],
-    "": ["parts.test.js", "cases.test.js", "connection.test.js", "fuzz.test.js", "faults.test.js", "ot.test.js"],
+    "cluster.js": ["cluster.test.js"],
+    "": ["parts.test.js", "cases.test.js", "connection.test.js", "cluster.test.js", "fuzz.test.js", "faults.test.js", "ot.test.js"],
 }
 FIXED = {"SEED": "7", "CASES": "1500", "RUNS": "6", "TIMEOUT": "10000"}
 RULES = [
@@ -86,7 +87,7 @@ def changes(lines):
 
 def detected(folder, file):
     """Runs the tests, and stops at the first file that fails."""
-    for name in TESTS["ot/" if file.startswith("ot/") else ""]:
+    for name in TESTS[next(it for it in TESTS if file.startswith(it))]:
         command = ["node", "--test", f"client/test/{name}"]
         process = subprocess.Popen(
             command,

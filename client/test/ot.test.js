@@ -338,6 +338,7 @@ test('a part has at most 256 components and fits into its room', OPTIONS, () => 
 
 test('the exports', OPTIONS, () => {
   assert.deepStrictEqual(Object.keys(index).sort(), [
-    'Client', 'Doc', 'Emitter', 'Refusal', 'apply', 'complete', 'compose', 'cross', 'invert', 'textChange', 'transformComponent', 'transformOffset',
+    'Client', 'Cluster', 'Doc', 'Emitter', 'Refusal', 'apply', 'bucketOf', 'complete', 'compose', 'cross', 'invert', 'textChange',
+    'transformComponent', 'transformOffset',
   ]);
 });

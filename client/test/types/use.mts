@@ -1,8 +1,8 @@
 // Compiled by package.test.js: a program that uses each call of the client with its types.
-import { Client, Doc, Emitter, Refusal, apply, complete, compose, cross, invert } from 'navirotsohy';
+import { Client, Cluster, Doc, Emitter, Refusal, apply, bucketOf, complete, compose, cross, invert } from 'navirotsohy';
 import { textChange, transformComponent, transformOffset } from 'navirotsohy';
 import { cross as crossOnly } from 'navirotsohy/ot';
-import type { Closing, Component, Data, DocEvents, Entry, Operation, Snapshot } from 'navirotsohy';
+import type { BucketState, Closing, Component, Data, DocEvents, Entry, Operation, Snapshot } from 'navirotsohy';
 
 interface Card {
   title: string;
@@ -25,6 +25,17 @@ client.off('state');
 client.on('state', (state) => state === 'gone');
 // @ts-expect-error: no such event
 client.on('states', () => undefined);
+
+const cluster: Cluster = new Cluster('ws://127.0.0.1:8080', 16, { ...options, idleDelay: 10 });
+new Cluster((bucket) => `ws://127.0.0.1:8080/b/${bucket.toFixed()}`, 16);
+cluster.on('state', ({ bucket, state }) => [bucket.toFixed(), state === 'failed']);
+cluster.on('close', ({ bucket, code, reason, text }) => [bucket.toFixed(), code.toFixed(), reason === 'full', text.length]);
+cluster.on('error', ({ bucket, error }) => [bucket.toFixed(), error.code === 'ERR_PROTOCOL']);
+// @ts-expect-error: the argument has a bucket
+cluster.on('state', (state) => state === 'failed');
+const states: BucketState[] = cluster.states;
+const clustered: Doc<Board> = cluster.document<Board>('board', '1');
+export const buckets: boolean = cluster.bucketOf(clustered.id) === bucketOf('1', cluster.buckets) && states[0].state === 'connected';
 
 const board: Doc<Board> = client.document<Board>('board', '1');
 const other = client.document('board', '2');
