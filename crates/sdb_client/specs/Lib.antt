@@ -1,0 +1,4 @@
+pub mod Coding
+pub mod Fault
+pub mod Send
+pub mod View

@@ -1,0 +1,5 @@
+pub mod Client
+pub mod Convergence
+pub mod Invariant
+pub mod Machine
+pub mod StoredOnce

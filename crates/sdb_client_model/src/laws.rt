@@ -1,0 +1,49 @@
+//! Laws of clients that share one document, as contracts of functions without effect.
+ghost use Rattle.sdb_client_model.specs.Convergence.{RunsAreConsistent, ClientsConverge, ClientsAgree, ClientsShowDocuments, NoneIsStuck, NoneRefused, EntriesAreProcessed};
+ghost use Rattle.sdb_client_model.specs.StoredOnce.{AllEditsAreStored, NoneStoredTwice};
+
+use sdb_oplog::laws::{refusals_have_causes, stored_entries_are_made};
+
+/// States convergence of the clients of a document after each run. A client that has processed all
+/// entries and has no pending edit shows the server's document. Two clients without a pending edit
+/// show the same document, if they have processed equally many entries.
+///
+/// Before that, a client shows the document at its version with its own edits, rebased: `invariant`.
+pub fn clients_converge()
+    ensures converge { ClientsConverge }
+    ensures agree { ClientsAgree }
+    ensures shown { ClientsShowDocuments }
+    ensures invariant { RunsAreConsistent }
+{
+    stored_entries_are_made();
+    refusals_have_causes();
+}
+
+/// States that the server refuses no edit of a client. It stores the edit, or it is a duplicate.
+pub fn no_edit_is_refused()
+    ensures { NoneRefused }
+{
+    stored_entries_are_made();
+    refusals_have_causes();
+}
+
+/// States that a client can process the entry at its version. An acknowledgement doesn't change what
+/// the client shows, and another one's edit is transformed and applied to it. So no client is stuck
+/// before it has processed all entries and has no pending edit.
+pub fn entries_are_processed()
+    ensures entries { EntriesAreProcessed }
+    ensures none_stuck { NoneIsStuck }
+{
+    stored_entries_are_made();
+    refusals_have_causes();
+}
+
+/// States that each edit of a client is stored once, in the order in which the client made them, or
+/// is still in the network or in its queue. No two entries have the same source and seq.
+pub fn edits_are_stored_once()
+    ensures edits { AllEditsAreStored }
+    ensures entries { NoneStoredTwice }
+{
+    stored_entries_are_made();
+    refusals_have_causes();
+}
