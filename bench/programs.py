@@ -62,8 +62,15 @@ class Running:
         return (self.processor_time() - before) / (time.perf_counter() - start)
 
     def resident(self):
+        return self.memory("VmRSS:")
+
+    def peak(self):
+        return self.memory("VmHWM:")
+
+    def memory(self, name):
+        """Returns a figure of the program's memory in KB."""
         with open(f"/proc/{self.process.pid}/status") as status:
-            return next(int(line.split()[1]) for line in status if line.startswith("VmRSS:"))
+            return next(int(line.split()[1]) for line in status if line.startswith(name))
 
     def command(self, mode, clients, *more):
         return [self.clients, mode, self.port, "-c", str(clients), *map(str, more)]

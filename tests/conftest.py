@@ -13,6 +13,7 @@ def pytest_addoption(parser):
     parser.addoption("--server", default=default_server(), help="the program of the server")
     parser.addoption("--steps", help="the program of the steps")
     parser.addoption("--edits", default="300", help="the number of edits of each client of tests/clients")
+    parser.addoption("--seconds", default="60", help="how long the clients of tests/cluster edit")
     parser.addoption("--seed", default="1", help="the seed of random edits and attacks")
 
 

@@ -47,6 +47,7 @@ use Rattle.sdb_backend.proofs.ValueSend.{Json-send, Json-sync}
 use Rattle.sdb_backend.specs.contracts.shard_value.Held as Held
 use Rattle.sdb_backend.specs.contracts.shard_value.HeldGrows.TheImpl as grows
 use Rattle.sdb_backend.specs.contracts.pass.Pass as Pass
+use Rattle.sdb_backend.specs.contracts.unsaved.EntryAt as EntryAt
 
 pub Act-send : IsSend Act.the_row
 Act-send = search (sendable, crosses, maps.crosses, Json-send, Json-sync) depth 20
@@ -186,8 +187,11 @@ Slot-send = view_send _ _ _ _ _ slot-send
 pub Shard-send : IsSend Shard.the_row
 Shard-send = search (sendable, crosses, maps.crosses, Slot-send) depth 20
 
+EntryAt-send : IsSend EntryAt.the_row
+EntryAt-send = search (sendable, crosses) depth 20
+
 pub Held-send : IsSend Held.the_row
-Held-send = declared_send Held.the_type (Shard-send, tt)
+Held-send = declared_send Held.the_type (Shard-send, (search (sendable, crosses, EntryAt-send) depth 20, tt))
 
 Locks-send : IsSend (Locks.the_row Held.the_row grows.ghosts)
 Locks-send = search (locks.the_send, Held-send) depth 20

@@ -7,4 +7,5 @@ pub mod OpenQueueCount
 pub mod ReplayBases
 pub mod PassModel
 pub mod PassRuns
+pub mod UnsavedEntries
 pub mod laws

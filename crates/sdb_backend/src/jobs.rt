@@ -10,6 +10,7 @@ ghost use Rattle.sdb_submit.specs.Calls.{MachineStep, copied_entries_view, look_
 ghost use Rattle.sdb_submit.specs.Calls as call;
 ghost use Rattle.sdb_value.specs.View.{value_of};
 ghost use Rattle.sdb_desk.specs.Machine.{IsUnchanged};
+ghost use Rattle.sdb_backend.specs.UnsavedEntries.{unsaved_of, UnsavedAfterReply, UnsavedAfterOutcome};
 ghost use Rattle.sdb_backend.specs.ReplayBases.{IsDocumentAt, IsReplayBaseOrError, IsReplayBaseAtOrError, replay_base_view, replay_base_at_view};
 
 use crate::shard_value::Held;
@@ -53,7 +54,8 @@ impl<'a> Job<Held> for CommitNowJob<'a> {
     ghost precondition = { λ j n a. j.submission.now.by ≡ n };
 
     ghost postcondition = { λ j n a b r. MachineStep n (machine_of a.shard) (plain_key j.key.now)
-        (call.commit_now j.submission.now j.now) (plain_reply r) (machine_of b.shard) };
+        (call.commit_now j.submission.now j.now) (plain_reply r) (machine_of b.shard)
+        × UnsavedAfterReply (plain_key j.key.now) (plain_reply r) (unsaved_of a) (unsaved_of b) };
 
     fn run(self, _number: u64, held: &mut Held) -> Reply {
         let Self {
@@ -61,7 +63,9 @@ impl<'a> Job<Held> for CommitNowJob<'a> {
             submission,
             now,
         } = self;
-        held.shard.commit_now(key, submission, now)
+        let reply = held.shard.commit_now(key, submission, now);
+        held.list_reply(key, &reply);
+        reply
     }
 }
 
@@ -77,11 +81,14 @@ impl<'a> Job<Held> for CommitLastJob<'a> {
     ghost precondition = { λ j n a. j.work.submission.by ≡ n };
 
     ghost postcondition = { λ j n a b r. MachineStep n (machine_of a.shard) (plain_key j.key.now)
-        (call.commit_now j.work.submission j.now) (plain_reply r) (machine_of b.shard) };
+        (call.commit_now j.work.submission j.now) (plain_reply r) (machine_of b.shard)
+        × UnsavedAfterReply (plain_key j.key.now) (plain_reply r) (unsaved_of a) (unsaved_of b) };
 
     fn run(self, _number: u64, held: &mut Held) -> Reply {
         let Self { key, work, now } = self;
-        held.shard.commit_last(key, work, now)
+        let reply = held.shard.commit_last(key, work, now);
+        held.list_reply(key, &reply);
+        reply
     }
 }
 
@@ -347,11 +354,15 @@ impl<'a> Job<Held> for CommitJob<'a> {
         × IsLook (logs_of a.shard (plain_key j.key.now)) j.work.now };
 
     ghost postcondition = { λ j n a b r. MachineStep n (machine_of a.shard) (plain_key j.key.now)
-        (call.commit j.work.now j.now) (outcome_of_decision j.work.now r) (machine_of b.shard) };
+        (call.commit j.work.now j.now) (outcome_of_decision j.work.now r) (machine_of b.shard)
+        × UnsavedAfterOutcome (plain_key j.key.now) (outcome_of_decision j.work.now r) (unsaved_of a)
+        (unsaved_of b) };
 
     fn run(self, _number: u64, held: &mut Held) -> CommitDecision {
         let Self { key, work, now } = self;
-        held.shard.decide(key, work, now)
+        let decision = held.shard.decide(key, work, now);
+        held.list_decision(key, work, &decision);
+        decision
     }
 }
 

@@ -15,11 +15,15 @@ mod jobs;
 pub mod laws;
 mod pass;
 mod pass_check;
+mod saving;
 mod shard_value;
+mod unsaved;
 
 pub use audit::Audit;
 pub use backend::{Backend, CloseError, CloseRefused};
 pub use counts::Counts;
 pub use desk::{submit_is_atomic, take_is_fifo};
 pub use pass::{Host, Pass};
+pub use saving::SHARD_COUNT;
 pub use shard_value::Held;
+pub use unsaved::EntryAt;

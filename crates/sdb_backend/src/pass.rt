@@ -36,8 +36,8 @@ pub struct Host {
 }
 
 impl Host {
-    // Returns the number of the next pass.
-    pub(crate) fn next(&self) -> u64
+    /// Returns the number of the next pass.
+    pub fn next(&self) -> u64
         ensures { result ≡ next_pass_number self.now }
     {
         self.seats.next()

@@ -1,4 +1,5 @@
 //! The documents of one lock.
+use crate::unsaved::EntryAt;
 use sdb_desk::Shard;
 use sdb_growlock::Grows;
 use sdb_striped_lock::Empty;
@@ -8,6 +9,9 @@ use std::alloc::Global;
 #[derive(Drop)]
 pub struct Held {
     pub shard: Shard,
+    // The entries that were stored since they were taken last, in the order of storing. `None` if
+    // they aren't listed, or if an allocation for the list has failed.
+    pub(crate) unsaved: Option<Vec<EntryAt>>,
 }
 
 impl Grows for Held {
@@ -41,6 +45,7 @@ impl Empty for Held {
     fn empty(alloc: Global) -> Held {
         Held {
             shard: Shard::new(alloc),
+            unsaved: None,
         }
     }
 }

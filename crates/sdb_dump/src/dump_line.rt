@@ -27,14 +27,18 @@ const LINE_LEN: usize = 256;
 
 /// The content of a line: a submission of a document and the moment at which it was stored.
 #[derive(Drop)]
-pub(crate) struct LineContent {
+pub struct LineContent {
     pub key: Key,
     pub submission: Submission,
     pub moment: Moment,
 }
 
-/// Returns the line of an entry of the document.
-pub(crate) fn line_text(
+/// Returns the line of an entry of the document, without a line feed.
+///
+/// # Errors
+///
+/// [`AllocError`] if an allocation fails.
+pub fn line_text(
     alloc: Global,
     version: DumpVersion,
     key: &Key,
@@ -190,8 +194,12 @@ fn write_tail(entry: &Entry, out: &mut Writer) -> Result<(), AllocError>
     out.end_object()
 }
 
-/// Parses a line. Returns `None` if its content can't be stored.
-pub(crate) fn read_line(
+/// Parses a line. Returns `None` if its content can't be stored. It doesn't read the stored content.
+///
+/// # Errors
+///
+/// [`AllocError`] if an allocation fails.
+pub fn read_line(
     alloc: Global,
     version: DumpVersion,
     line: &[u8],

@@ -12,5 +12,6 @@ mod write;
 
 pub use check::check_dump;
 pub use checker::{CheckedDump, DumpFault};
+pub use dump_line::{LineContent, line_text, read_line};
 pub use version::DumpVersion;
 pub use write::{DumpSource, write_dump};

@@ -9,6 +9,7 @@ use Rattle.mio.specs.contracts.waker.Waker as Waker
 use Rattle.mio.specs.contracts.net.listener.TcpListener as TcpListener
 use Rattle.mio.specs.contracts.net.stream.TcpStream as TcpStream
 use Rattle.sdb_backend.proofs.SendSync.{Backend-send, Backend-sync, Pass-send}
+use Rattle.sdb_progress.specs.contracts.progress.SaveProgress as SaveProgress
 use Rattle.sdb_event_loop.specs.declared.loop_pass.PassBrand as brand
 use Rattle.sdb_event_loop.specs.contracts.loop_port.LoopPort as LoopPort
 use Rattle.sdb_event_loop.specs.contracts.metrics.Metrics as Metrics
@@ -53,12 +54,18 @@ Metrics-send = declared_send Metrics.the_type (search (crosses, sendable) depth 
 Metrics-sync : IsSync Metrics.the_row
 Metrics-sync = declared_sync Metrics.the_type (search (crosses, sendable) depth 20)
 
+pub SaveProgress-send : IsSend SaveProgress.the_row
+SaveProgress-send = declared_send SaveProgress.the_type (search (sendable, crosses) depth 20)
+
+pub SaveProgress-sync : IsSync SaveProgress.the_row
+SaveProgress-sync = declared_sync SaveProgress.the_type (search (sendable, crosses) depth 20)
+
 module _ (R P : RattleType) where
   pub LoopServer-send : IsSend R → IsSend P → IsSend (LoopServer.the_row R P)
-  LoopServer-send s p = declared_send (LoopServer.the_type R P) (Backend-send R s, (as_row_send (row_field P) p, search (crosses, sendable, LoopPort-send, Metrics-send) depth 20))
+  LoopServer-send s p = declared_send (LoopServer.the_type R P) (Backend-send R s, (as_row_send (row_field P) p, search (crosses, sendable, SaveProgress-send, SaveProgress-sync, LoopPort-send, Metrics-send) depth 20))
 
   pub LoopServer-sync : IsSync R → IsSync P → IsSync (LoopServer.the_row R P)
-  LoopServer-sync y q = declared_sync (LoopServer.the_type R P) (Backend-sync R y, (as_row_sync (row_field P) q, search (crosses, sendable, LoopPort-sync, Metrics-sync) depth 20))
+  LoopServer-sync y q = declared_sync (LoopServer.the_type R P) (Backend-sync R y, (as_row_sync (row_field P) q, search (crosses, sendable, SaveProgress-send, SaveProgress-sync, LoopPort-sync, Metrics-sync) depth 20))
 
 Session-send : IsSend Session.the_row
 Session-send = declared_send Session.the_type (search (sendable, crosses, maps.crosses) depth 40)
@@ -82,7 +89,7 @@ TurnEvents-send : IsSend TurnEvents.the_row
 TurnEvents-send = declared_send TurnEvents.the_type (search sendable depth 20)
 
 LoopBuffers-send : IsSend LoopBuffers.the_row
-LoopBuffers-send = declared_send LoopBuffers.the_type (search (sendable, crosses) depth 30)
+LoopBuffers-send = declared_send LoopBuffers.the_type (search (sendable, crosses, SaveProgress-send, SaveProgress-sync) depth 30)
 
 module _ (B : RattleType) (g : brand.Ghosts B.Denot) where
   LoopPass-send : IsSend B → IsSend (LoopPass.the_row B g)
@@ -118,7 +125,23 @@ module _ (R P B : RattleType) (g : brand.Ghosts B.Denot) where
   LoopContext-send s y p q b = declared_send (LoopContext.the_type R P B g) (search (sendable, crosses, LoopServer-send, LoopServer-sync, PassSupply-send, PassSupply-sync) depth 40)
 
   EventLoop-send : IsSend R → IsSync R → IsSend P → IsSync P → IsSend B → IsSend (EventLoop.the_row R P B g)
-  EventLoop-send s y p q b = declared_send (EventLoop.the_type R P B g) (search (sendable, crosses, LoopContext-send, TcpListener-send, TcpListener-sync, ConnectionSlot-send, LoopBuffers-send, LoopPass-send) depth 60)
+  EventLoop-send s y p q b =
+      declared_send (EventLoop.the_type R P B g) (
+        search (sendable, crosses) depth 20,
+        (
+          LoopContext-send s y p q b,
+          (
+            search sendable depth 20,
+            (
+              search (sendable, crosses, TcpListener-send, TcpListener-sync) depth 20,
+              (
+                search (sendable, crosses, ConnectionSlot-send) depth 40,
+                search (sendable, crosses, LoopBuffers-send, LoopPass-send) depth 60,
+              ),
+            ),
+          ),
+        ),
+      )
 
   PolledLoop-send : IsSend R → IsSync R → IsSend P → IsSync P → IsSend B → IsSend (PolledLoop.the_row R P B g)
   PolledLoop-send s y p q b = declared_send (PolledLoop.the_type R P B g) (search (sendable, crosses, EventLoop-send) depth 40)

@@ -3,6 +3,7 @@ use crate::deadlines::WRITE_LIMIT_SECONDS;
 use crate::link::{Link, ReadOutcome};
 use crate::session_end::configuration;
 use mio::net::TcpStream as MioStream;
+use sdb_progress::SaveProgress;
 use std::alloc::Global;
 use std::io;
 use websocket::error::Error;
@@ -26,7 +27,7 @@ pub(crate) enum Progress {
 /// client reads that output before its own writes fail.
 #[derive(Drop)]
 pub(crate) struct ClosingConnection {
-    link: Link,
+    pub(crate) link: Link,
     // `None` if the input isn't read as frames.
     websocket: Option<WebSocketContext>,
     // The received part of a frame.
@@ -77,7 +78,7 @@ impl ClosingConnection {
         second: u64,
     ) -> Option<ClosingConnection> {
         let mut link = Link::new(alloc, stream);
-        link.send(output).ok()?;
+        link.send(output, None).ok()?;
         let closing = ClosingConnection::new(link, None, Vec::new(alloc), second, true);
         closing.end_output();
         Some(closing)
@@ -97,7 +98,7 @@ impl ClosingConnection {
             output.clear();
             return None;
         }
-        link.send(output).ok()?;
+        link.send(output, None).ok()?;
         let partial = Vec::new(alloc);
         Some(ClosingConnection::new(link, Some(websocket), partial, second, true))
     }
@@ -105,6 +106,16 @@ impl ClosingConnection {
     /// Records that input waits, or that the client has closed its sending side.
     pub(crate) fn record_readable(&mut self, is_closed: bool) {
         self.link.record_readable(is_closed);
+    }
+
+    /// Releases held output if it is committed. Returns whether it did. The time of the hold doesn't
+    /// count.
+    pub(crate) fn release(&mut self, progress: &SaveProgress, second: u64) -> bool {
+        let is_released = self.link.release(progress);
+        if is_released {
+            self.start = second;
+        }
+        is_released
     }
 
     /// Writes pending output.
@@ -129,8 +140,12 @@ impl ClosingConnection {
         !self.drains && !self.link.has_pending_output()
     }
 
-    /// Returns whether the client had its time.
-    pub(crate) fn is_late(&self, second: u64) -> bool {
+    /// Returns whether the client had its time. A client whose output is held has time until
+    /// operations can't be saved.
+    pub(crate) fn is_late(&self, second: u64, is_unsaved: bool) -> bool {
+        if self.link.is_held() {
+            return is_unsaved;
+        }
         let seconds = second.saturating_sub(self.start);
         if self.link.has_pending_output() {
             seconds > WRITE_LIMIT_SECONDS
@@ -140,8 +155,11 @@ impl ClosingConnection {
     }
 
     /// Reads once and discards the input. The connection is over at the client's close, or at the
-    /// end of its stream.
+    /// end of its stream. While output is held no input is read.
     pub(crate) fn discard_input(&mut self, alloc: Global, input: &mut [u8]) -> Progress {
+        if self.link.is_held() {
+            return Progress::Idle;
+        }
         let count = match self.link.read(input) {
             Ok(ReadOutcome::Bytes(count)) => count,
             Ok(ReadOutcome::Blocked) => return Progress::Idle,

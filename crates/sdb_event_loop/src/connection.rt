@@ -14,6 +14,7 @@ use crate::loop_context::LoopContext;
 use crate::loop_pass::{LoopPass, PassBrand};
 use crate::session_end::{SessionEnd, configuration};
 use mio::net::TcpStream as MioStream;
+use sdb_progress::SaveProgress;
 use sdb_session::{Listing, Policy, Session};
 use std::alloc::{AllocError, Global};
 use std::sync::Wait;
@@ -157,6 +158,17 @@ impl<B: PassBrand> Connection<B> {
         }
     }
 
+    /// Releases held output if it is committed. Returns whether it did.
+    pub(crate) fn release(&mut self, progress: &SaveProgress, time: LoopTime) -> bool
+        ensures { pass_number self.new.pass.pass ≡ pass_number self.old.pass.pass }
+    {
+        let is_released = self.link.release(progress);
+        if is_released {
+            self.deadlines.end_hold(time.second);
+        }
+        is_released
+    }
+
     /// Adds a group. Returns `false` if the session was subscribed to it before.
     pub(crate) fn subscribe(&mut self, group: DocumentGroup) -> Result<bool, AllocError>
         ensures { pass_number self.new.pass.pass ≡ pass_number self.old.pass.pass }
@@ -177,6 +189,9 @@ impl<B: PassBrand> Connection<B> {
     ) -> Result<(), SessionEnd>
         ensures { pass_number self.new.pass.pass ≡ pass_number self.old.pass.pass }
     {
+        if self.link.is_held() && output.is_save_failing() {
+            return Err(SessionEnd::Unsaved);
+        }
         let is_pending = self.link.has_pending_output();
         match self.deadlines.next_action(time.second, is_pending) {
             DueAction::Nothing => Ok(()),
@@ -207,17 +222,54 @@ impl<B: PassBrand> Connection<B> {
         let _ = self.send(time, output);
     }
 
-    /// Writes the output. What the socket doesn't take is pending.
+    /// Writes the output. What the socket doesn't take is pending. If the server saves operations,
+    /// the output is held until all operations stored before this call are saved.
     pub(crate) fn send(&mut self, time: LoopTime, output: &mut LoopOutput) -> Result<(), SessionEnd>
         ensures { pass_number self.new.pass.pass ≡ pass_number self.old.pass.pass }
     {
         output.tally.add_sent(output.bytes.len());
-        let is_sent = self.link.send(&mut output.bytes).is_ok();
+        let ticket = output.request_ticket();
+        let is_sent = self.link.send(&mut output.bytes, ticket).is_ok();
         self.deadlines.record_write(time.second);
+        if self.link.is_held() {
+            self.deadlines.begin_hold(time.second);
+        }
         if is_sent {
             Ok(())
         } else {
             Err(SessionEnd::Lost)
+        }
+    }
+
+    // Sends what the client receives at the end of its session. Returns `false` if it receives nothing
+    // or the connection is lost. If held output is never saved, it is discarded.
+    fn send_end(&mut self, end: SessionEnd, output: &mut LoopOutput) -> bool
+        ensures { pass_number self.new.pass.pass ≡ pass_number self.old.pass.pass }
+    {
+        let is_unsaved = output.is_unsaved(end);
+        if is_unsaved && !self.discard_unsaved(output) {
+            return false;
+        }
+        let is_answered = self.write_end(end, output);
+        output.tally.add_sent(output.bytes.len());
+        // (what is sent at the end alone reports no operation)
+        let ticket = if is_unsaved {
+            None
+        } else {
+            output.request_ticket()
+        };
+        let is_sent = self.link.send(&mut output.bytes, ticket).is_ok();
+        is_answered && is_sent
+    }
+
+    // Discards output that isn't committed. Returns `false` if the client has received a part of it.
+    fn discard_unsaved(&mut self, output: &mut LoopOutput) -> bool
+        ensures { pass_number self.new.pass.pass ≡ pass_number self.old.pass.pass }
+    {
+        output.bytes.clear();
+        match &output.progress {
+            Some(progress) => self.link.discard_held(progress),
+            None => true,
         }
     }
 
@@ -260,9 +312,7 @@ impl<B: PassBrand> Connection<B> {
     ) -> EndedConnection<B>
         ensures { let b = context.now.state.value.backend in KeepsPass b self.pass.pass b result.pass.pass }
     {
-        let is_answered = self.write_end(end, output);
-        output.tally.add_sent(output.bytes.len());
-        let is_sent = self.link.send(&mut output.bytes).is_ok();
+        let is_closing = self.send_end(end, output);
         let Connection {
             alloc,
             link,
@@ -284,7 +334,7 @@ impl<B: PassBrand> Connection<B> {
             operations,
         };
         pass.end_session(context, session, listing);
-        let closing = if is_answered && is_sent {
+        let closing = if is_closing {
             let readable = readable_context(websocket);
             let drains = !matches!(end, SessionEnd::Closed);
             Some(ClosingConnection::new(link, readable, partial, time.second, drains))

@@ -21,6 +21,8 @@ pub(crate) struct Deadlines {
     last_write: u64,
     // The begin of a message that isn't complete.
     message_start: Option<u64>,
+    // The second since which output is held. Meanwhile nothing is due.
+    hold_start: Option<u64>,
     is_pinged: bool,
 }
 
@@ -39,6 +41,7 @@ impl Deadlines {
             last_message: second,
             last_write: second,
             message_start: None,
+            hold_start: None,
             is_pinged: false,
         }
     }
@@ -66,8 +69,30 @@ impl Deadlines {
         self.last_write = second;
     }
 
+    /// Records that output is held.
+    pub(crate) fn begin_hold(&mut self, second: u64) {
+        if self.hold_start.is_none() {
+            self.hold_start = Some(second);
+        }
+    }
+
+    /// Records that no output is held. The time of the hold doesn't count, since the client wasn't
+    /// read from.
+    pub(crate) fn end_hold(&mut self, second: u64) {
+        let start = self.hold_start.take().unwrap_or(second);
+        let held = second.saturating_sub(start);
+        self.last_message = self.last_message.saturating_add(held);
+        if let Some(start) = self.message_start {
+            self.message_start = Some(start.saturating_add(held));
+        }
+        self.last_write = second;
+    }
+
     /// Returns what is due. A ping is due once for each silence.
     pub(crate) fn next_action(&mut self, second: u64, has_pending_output: bool) -> DueAction {
+        if self.hold_start.is_some() {
+            return DueAction::Nothing;
+        }
         if has_pending_output {
             return match second.saturating_sub(self.last_write) > WRITE_LIMIT_SECONDS {
                 true => DueAction::End(SessionEnd::Lost),

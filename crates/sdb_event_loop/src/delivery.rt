@@ -110,5 +110,6 @@ impl<R: Net + Wait + Clock + Eprint + Copy + Drop, P: Policy + Drop, B: PassBran
             Ok(_) => {}
             Err(end) => self.end_session(key, end),
         }
+        self.list_held(key);
     }
 }

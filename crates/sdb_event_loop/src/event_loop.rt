@@ -53,6 +53,13 @@ pub(crate) struct EventLoop<R, P, B: PassBrand> {
     pub(crate) ready: VecDeque<usize>,
     pub(crate) lagging: Vec<usize>,
     pub(crate) awaiting: Vec<usize>,
+    // The keys of connections whose output is held, and the number of this list, 1 or more. A
+    // connection that is in the list has its number.
+    pub(crate) held: Vec<usize>,
+    pub(crate) held_list_number: u64,
+    // The number of the last committed round when the list was last compared with it. Each listed
+    // connection waits for a later round.
+    pub(crate) seen_round: u64,
     pub(crate) buffers: LoopBuffers,
     pub(crate) time: LoopTime,
     start: Option<Instant>,
@@ -90,6 +97,9 @@ impl<R: Clock, P: Policy + Drop, B: PassBrand> EventLoop<R, P, B> {
             ready: VecDeque::new(alloc),
             lagging: Vec::new(alloc),
             awaiting: Vec::new(alloc),
+            held: Vec::new(alloc),
+            held_list_number: 1,
+            seen_round: 0,
             buffers,
             time: LoopTime {
                 second: 0,
@@ -131,8 +141,8 @@ impl<R: Net + Wait + Clock + Eprint + Copy + Drop, P: Policy + Drop, B: PassBran
     P,
     B,
 > {
-    /// Waits for events and records them, puts clients back whose turns ended elsewhere, accepts
-    /// connections and starts sessions.
+    /// Waits for events and records them, puts clients back whose turns ended elsewhere, writes output
+    /// that was held, accepts connections and starts sessions.
     pub(crate) fn begin_pass(
         &mut self,
         poll: &mut Poll,
@@ -150,6 +160,7 @@ impl<R: Net + Wait + Clock + Eprint + Copy + Drop, P: Policy + Drop, B: PassBran
             std::thread::sleep(&self.context.rt, Duration::from_millis(PAUSE_MS));
         }
         self.end_turns(slot);
+        self.release_held();
         self.accept_next(poll.registry());
         self.start_sessions();
     }
@@ -164,7 +175,8 @@ impl<R: Net + Wait + Clock + Eprint + Copy + Drop, P: Policy + Drop, B: PassBran
     }
 
     // Returns how long the loop waits for the next event: not at all if work is left. From here on
-    // it is woken for stored operations, for passes, for ended turns, and to accept a connection.
+    // it is woken for stored operations, for committed rounds, for passes, for ended turns, and to
+    // accept a connection.
     fn next_timeout(&mut self, registry: &mio::Registry, slot: &LoopSlot<R, P, B>) -> Duration {
         let is_quiet = self.port().is_some_and(LoopPort::begin_wait);
         let has_accepted = self.accept_next(registry);
@@ -175,11 +187,12 @@ impl<R: Net + Wait + Clock + Eprint + Copy + Drop, P: Policy + Drop, B: PassBran
         }
     }
 
-    // Returns whether a connection is listed, a session can start, or the loop must begin to end.
+    // Returns whether a connection is listed, held output may be committed, a session can start, or the
+    // loop must begin to end.
     fn has_work(&self) -> bool {
         let begins_end = self.ending_since.is_none() && self.context.state.is_ending();
         let has_listed = !self.ready.is_empty() || !self.lagging.is_empty();
-        begins_end || has_listed || self.can_start_session()
+        begins_end || has_listed || self.can_release() || self.can_start_session()
     }
 
     fn longest_wait(&self) -> u64 {
@@ -286,8 +299,8 @@ impl<R: Net + Wait + Clock + Eprint + Copy + Drop, P: Policy + Drop, B: PassBran
         self.list_lagging(key);
     }
 
-    // Writes pending output. A client that has taken all of it is served again.
-    fn resume(&mut self, key: usize) {
+    /// Writes pending output. A client that has taken all of it is served again.
+    pub(crate) fn resume(&mut self, key: usize) {
         let resumed = match self.slots.get_mut(key) {
             Some(ConnectionSlot::Served(connection)) => connection.resume(self.time),
             Some(ConnectionSlot::Closing(closing)) => {

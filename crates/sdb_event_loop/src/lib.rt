@@ -22,6 +22,7 @@ mod document_group;
 mod event_loop;
 mod frame_sink;
 mod handshake;
+mod holding;
 mod link;
 mod listen;
 mod log;

@@ -1,6 +1,7 @@
 //! The socket of a connection.
 use crate::pending_output::{PendingOutput, is_would_block};
 use mio::net::TcpStream as MioStream;
+use sdb_progress::{SaveProgress, Ticket};
 use std::alloc::Global;
 use std::io;
 use std::io::{Read, Write};
@@ -19,10 +20,17 @@ pub(crate) enum ReadOutcome {
 
 /// The socket of a connection, its pending output, and what events have reported of it. An event is
 /// reported once, so it is recorded until a read finds no more.
+///
+/// Pending output is held until its ticket is committed, since a crash could remove the operations
+/// that it reports.
 #[derive(Drop)]
 pub(crate) struct Link {
     stream: MioStream,
     pending: PendingOutput,
+    // The ticket of held output.
+    hold: Option<Ticket>,
+    // The number of the last list of held connections that has the connection, or 0.
+    list_number: u64,
     is_readable: bool,
     // Whether a short read doesn't show that all input was read, since no event reports the rest.
     reads_until_blocked: bool,
@@ -34,6 +42,8 @@ impl Link {
         Link {
             stream,
             pending: PendingOutput::new(alloc),
+            hold: None,
+            list_number: 0,
             is_readable: true,
             reads_until_blocked: true,
         }
@@ -61,6 +71,45 @@ impl Link {
         !self.pending.is_empty()
     }
 
+    /// Returns whether output is held.
+    pub(crate) fn is_held(&self) -> bool {
+        self.hold.is_some()
+    }
+
+    /// Returns whether output is held and the list with this number doesn't have the connection.
+    pub(crate) fn is_unlisted(&self, list_number: u64) -> bool {
+        self.is_held() && self.list_number != list_number
+    }
+
+    /// Records that the list with this number has the connection.
+    pub(crate) fn record_listed(&mut self, list_number: u64) {
+        self.list_number = list_number;
+    }
+
+    /// Ends the hold if its ticket is committed. Returns whether it did: the output is then pending
+    /// until [`resume`](Link::resume) writes it.
+    pub(crate) fn release(&mut self, progress: &SaveProgress) -> bool {
+        match self.hold {
+            Some(ticket) if progress.is_committed(ticket) => {
+                self.hold = None;
+                true
+            }
+            _ => false,
+        }
+    }
+
+    /// Discards held output, unless its ticket is committed. Returns `false` if the client has
+    /// received a part of a frame, so that no other frame can be sent.
+    pub(crate) fn discard_held(&mut self, progress: &SaveProgress) -> bool {
+        match self.hold {
+            Some(ticket) if !progress.is_committed(ticket) => {
+                self.hold = None;
+                self.pending.discard()
+            }
+            _ => true,
+        }
+    }
+
     /// Reads once.
     pub(crate) fn read(&mut self, input: &mut [u8]) -> io::Result<ReadOutcome> {
         match self.stream.read(input) {
@@ -78,12 +127,18 @@ impl Link {
         }
     }
 
-    /// Writes the output, and clears it. What the socket doesn't take is pending.
-    pub(crate) fn send(&mut self, output: &mut Vec<u8>) -> io::Result<()> {
+    /// Writes the output, and clears it. What the socket doesn't take is pending. With a ticket, or
+    /// while earlier output is held, the output is held, and all of it waits for the last ticket.
+    pub(crate) fn send(&mut self, output: &mut Vec<u8>, ticket: Option<Ticket>) -> io::Result<()> {
         if output.is_empty() {
             return Ok(());
         }
-        let sent = self.pending.send(&mut self.stream, output);
+        self.hold = ticket.or(self.hold);
+        let sent = if self.is_held() {
+            self.pending.append(output)
+        } else {
+            self.pending.send(&mut self.stream, output)
+        };
         output.clear();
         sent
     }
@@ -94,8 +149,11 @@ impl Link {
         let _ = self.stream.shutdown(Shutdown::Write);
     }
 
-    /// Writes pending output. Returns whether the socket took any.
+    /// Writes pending output, unless it is held. Returns whether the socket took any.
     pub(crate) fn resume(&mut self) -> io::Result<bool> {
+        if self.is_held() {
+            return Ok(false);
+        }
         self.pending.resume(&mut self.stream)
     }
 }

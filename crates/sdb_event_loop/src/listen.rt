@@ -29,8 +29,9 @@ use std::time::Clock;
 /// - A client gets its pass after its handshake. `GET /health` is answered with a line of JSON and
 ///   `GET /metrics` with Prometheus' text format, any other request that is no WebSocket handshake
 ///   with status 426.
-/// - A client is closed with 1013 (try again later) if as many are served as the options permit, or
-///   if the host has no passes left.
+/// - A client is closed with 1013 (try again later) if as many are served as the options permit, if
+///   the host has no passes left, or if its output can't be
+///   [saved](LoopServer::with_progress) for long.
 /// - At most 64 connections more than clients are open at once. Any other waits to be accepted.
 /// - A failure to accept is logged on standard error, once until accepting works again.
 ///   [`with_log`](LoopServer::with_log) also logs the start and the end of each session.

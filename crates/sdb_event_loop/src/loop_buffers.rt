@@ -2,8 +2,11 @@
 use crate::document_group::DocumentGroup;
 use crate::log::LogTime;
 use crate::metrics::Tally;
+use crate::session_end::SessionEnd;
 use sdb_oplog::{Code, Moment};
+use sdb_progress::{SaveProgress, Ticket};
 use std::alloc::{AllocError, Global};
+use std::sync::Arc;
 
 // Size in bytes of one read.
 const INPUT_SIZE: usize = 64 * 1_024;
@@ -47,6 +50,8 @@ pub(crate) struct LoopOutput {
     pub(crate) subscribed: Vec<DocumentGroup>,
     /// What was done since the tally was added to the metrics.
     pub(crate) tally: Tally,
+    /// The progress of saving, if operations are saved. Output is then held until it is committed.
+    pub(crate) progress: Option<Arc<SaveProgress, Global>>,
 }
 
 /// The buffers of a loop or of a thread.
@@ -60,8 +65,19 @@ pub(crate) struct LoopBuffers {
 }
 
 impl LoopBuffers {
-    /// Creates the buffers. Fails only if an allocation fails.
-    pub(crate) fn new(alloc: Global) -> Result<LoopBuffers, AllocError> {
+    /// Creates the buffers of a server with this progress of saving, if it has one.
+    ///
+    /// # Errors
+    ///
+    /// [`AllocError`] if an allocation fails, or if the progress has too many owners.
+    pub(crate) fn new(
+        alloc: Global,
+        progress: Option<&Arc<SaveProgress, Global>>,
+    ) -> Result<LoopBuffers, AllocError> {
+        let progress = match progress {
+            Some(progress) => Some(Arc::try_clone(progress)?),
+            None => None,
+        };
         Ok(LoopBuffers {
             input: Vec::from_elem(alloc, 0, INPUT_SIZE)?,
             spare: Vec::new(alloc),
@@ -69,12 +85,37 @@ impl LoopBuffers {
                 bytes: Vec::new(alloc),
                 subscribed: Vec::new(alloc),
                 tally: Tally::new(),
+                progress,
             },
         })
     }
 }
 
 impl LoopOutput {
+    /// Requests that all operations stored before this call are saved, if there is output to send.
+    pub(crate) fn request_ticket(&self) -> Option<Ticket> {
+        match &self.progress {
+            Some(progress) if !self.bytes.is_empty() => Some(progress.request()),
+            _ => None,
+        }
+    }
+
+    /// Returns whether saving has failed for so long that sessions with held output end.
+    pub(crate) fn is_save_failing(&self) -> bool {
+        match &self.progress {
+            Some(progress) => progress.is_failing(),
+            None => false,
+        }
+    }
+
+    /// Returns whether held output is discarded at this end of a session.
+    pub(crate) fn is_unsaved(&self, end: SessionEnd) -> bool {
+        match &self.progress {
+            Some(progress) => matches!(end, SessionEnd::Unsaved) || progress.is_over(),
+            None => false,
+        }
+    }
+
     /// Moves out the groups to which a session has subscribed.
     pub(crate) fn take_subscribed(&mut self, alloc: Global) -> Vec<DocumentGroup> {
         std::mem::replace(&mut self.subscribed, Vec::new(alloc))

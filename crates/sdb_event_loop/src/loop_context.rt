@@ -63,7 +63,7 @@ impl<R: Copy, P: Policy + Drop, B: PassBrand> LoopContext<R, P, B> {
     where
         R: Wait,
     {
-        self.supply.is_failing() || !self.supply.is_empty(&self.rt)
+        self.supply.has_pass_or_failure(&self.rt)
     }
 
     /// Returns another context of the run. Fails only if there are too many.

@@ -9,9 +9,10 @@ use crate::loop_port::LoopPort;
 use crate::metrics::Metrics;
 use crate::plain_request::ServerStatus;
 use sdb_backend::Backend;
+use sdb_progress::SaveProgress;
 use std::alloc::{AllocError, Global};
-use std::sync::Wait;
 use std::sync::atomic::{AtomicBool, AtomicU64, AtomicUsize, Ordering};
+use std::sync::{Arc, Wait};
 use std::thread::Parker;
 
 /// Maximum number of loops.
@@ -47,6 +48,8 @@ pub struct LoopServer<R, P> {
     is_keeping: bool,
     // Number of clients after which the server is stopped.
     session_limit: Option<u64>,
+    // The progress of saving, if operations are saved.
+    progress: Option<Arc<SaveProgress, Global>>,
     is_stopped: AtomicBool,
     // Set once all loops run. Loops accept connections only then.
     is_open: AtomicBool,
@@ -103,6 +106,7 @@ impl<R: Drop, P: Drop> LoopServer<R, P> {
             is_proxied: false,
             is_keeping: true,
             session_limit: None,
+            progress: None,
             is_stopped: AtomicBool::new(false),
             is_open: AtomicBool::new(false),
             is_ending: AtomicBool::new(false),
@@ -155,6 +159,31 @@ impl<R: Drop, P: Drop> LoopServer<R, P> {
         self
     }
 
+    /// Sets the progress of a thread that saves stored operations. Without one, the default, no output
+    /// waits for a save.
+    ///
+    /// - The output of a client's turn is held until a round is committed that began after the turn.
+    ///   Meanwhile the client isn't read from.
+    /// - A session gets only a number that is reserved.
+    /// - If saving [fails](SaveProgress::is_failing) for long, sessions whose output is held are closed
+    ///   with 1013, and that output is discarded.
+    /// - If nothing more [is saved](SaveProgress::is_over), the held output of a session that ends is
+    ///   discarded.
+    ///
+    /// The thread that saves calls [`notify_committed`](LoopServer::notify_committed) after each round.
+    ///
+    /// ```
+    /// let progress = Arc::new(alloc, SaveProgress::new(reserved))?;
+    /// let state = LoopServer::new(alloc, backend, Table::new(alloc), options)?
+    ///     .with_progress(Arc::try_clone(&progress)?);
+    /// ```
+    pub fn with_progress(mut self, progress: Arc<SaveProgress, Global>) -> LoopServer<R, P>
+        ensures { loops_backend result ≡ loops_backend self }
+    {
+        self.progress = Some(progress);
+        self
+    }
+
     /// Returns the backend, so that it can be closed after all sessions have ended. It doesn't wait
     /// for them.
     pub fn into_backend(self) -> Backend<R>
@@ -166,6 +195,42 @@ impl<R: Drop, P: Drop> LoopServer<R, P> {
 }
 
 impl<R, P> LoopServer<R, P> {
+    /// Returns the backend.
+    pub fn backend(&self) -> &Backend<R>
+        ensures { result.now ≡ loops_backend self.now }
+    {
+        &self.backend
+    }
+
+    /// Returns the progress of saving, if operations are saved.
+    pub(crate) fn progress(&self) -> Option<&Arc<SaveProgress, Global>> {
+        self.progress.as_ref()
+    }
+
+    /// Returns the number of the last round that is committed, or 0.
+    pub(crate) fn committed_round(&self) -> u64 {
+        match &self.progress {
+            Some(progress) => progress.committed_round(),
+            None => 0,
+        }
+    }
+
+    /// Returns whether operations can't be saved: saving has failed for long, or nothing more is saved.
+    pub(crate) fn is_unsaved(&self) -> bool {
+        match &self.progress {
+            Some(progress) => progress.is_failing() || progress.is_over(),
+            None => false,
+        }
+    }
+
+    /// Requests that numbers up to this one may be given to sessions. Returns whether they may.
+    pub(crate) fn reserve_number(&self, number: u64) -> bool {
+        match &self.progress {
+            Some(progress) => progress.reserve_number(number),
+            None => true,
+        }
+    }
+
     /// Returns the number of loops.
     pub(crate) fn loop_count(&self) -> usize {
         self.ports.len()
@@ -288,6 +353,13 @@ impl<R, P> LoopServer<R, P> {
     pub fn stop<W: Wait>(&self, rt: &W) {
         self.is_stopped.store(true, Ordering::SeqCst);
         self.end(rt);
+        self.supplier.unpark();
+    }
+
+    /// Wakes all loops and the thread that supplies passes. The thread that saves calls this after each
+    /// round, whether it was committed or has failed.
+    pub fn notify_committed<W: Wait>(&self, rt: &W) {
+        self.wake_all(rt);
         self.supplier.unpark();
     }
 

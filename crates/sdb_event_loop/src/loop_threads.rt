@@ -107,7 +107,7 @@ where
         context.try_clone()?,
         number,
         Arc::try_clone(listener)?,
-        LoopBuffers::new(alloc)?,
+        LoopBuffers::new(alloc, context.state.progress())?,
         empty_groups(alloc)?,
     );
     let polled = PolledLoop {
@@ -186,7 +186,7 @@ where
     B: PassBrand + Send + Sync + 'static,
 {
     let slots = Arc::try_clone(slots)?;
-    let buffers = LoopBuffers::new(alloc)?;
+    let buffers = LoopBuffers::new(alloc, context.state.progress())?;
     let runner = LoopRunner::new(alloc, context.try_clone()?, slots, buffers);
     handle_of(thread::spawn(&context.rt, move || run_loops(runner)))
 }

@@ -46,8 +46,13 @@ impl<B: PassBrand> PassSupply<B> {
         self.is_failing.load(Ordering::SeqCst)
     }
 
-    /// Returns whether there is no pass.
-    pub(crate) fn is_empty<R: Wait>(&self, rt: &R) -> bool {
+    /// Returns whether there is a pass, or none can be created.
+    pub(crate) fn has_pass_or_failure<R: Wait>(&self, rt: &R) -> bool {
+        self.is_failing() || !self.is_empty(rt)
+    }
+
+    // Returns whether there is no pass.
+    fn is_empty<R: Wait>(&self, rt: &R) -> bool {
         self.stock.lock(rt).is_empty()
     }
 
@@ -87,7 +92,8 @@ impl<B: PassBrand> PassSupply<B> {
     }
 }
 
-/// Creates passes until the server is stopped, so that some are always unused.
+/// Creates passes until the server is stopped, so that some are always unused. While no number is
+/// reserved for the next pass, loops that wait for one aren't woken.
 pub(crate) fn supply_passes<R: Wait + Drop, P: Policy + Drop, B: PassBrand>(
     context: &LoopContext<R, P, B>,
     host: &mut Host,
@@ -100,7 +106,7 @@ pub(crate) fn supply_passes<R: Wait + Drop, P: Policy + Drop, B: PassBrand>(
             return;
         }
         fill_supply(context, host);
-        if context.supply.take_request() {
+        if context.supply.has_pass_or_failure(&context.rt) && context.supply.take_request() {
             context.state.wake_all(&context.rt);
         }
         let pause = Duration::from_secs(PAUSE_SECONDS);
@@ -109,7 +115,7 @@ pub(crate) fn supply_passes<R: Wait + Drop, P: Policy + Drop, B: PassBrand>(
     unreachable!()
 }
 
-// Creates passes until the supply is full.
+// Creates passes until the supply is full, or the next number isn't reserved.
 fn fill_supply<R: Wait + Drop, P: Policy + Drop, B: PassBrand>(
     context: &LoopContext<R, P, B>,
     host: &mut Host,
@@ -118,7 +124,7 @@ fn fill_supply<R: Wait + Drop, P: Policy + Drop, B: PassBrand>(
     ensures { IsHostOfLoops host.new context.now.state.value }
 {
     for _ in 0..context.supply.size {
-        if context.supply.is_full(&context.rt) {
+        if context.supply.is_full(&context.rt) || !context.state.reserve_number(host.next()) {
             return;
         }
         let pass = LoopPass::new(context, host);

@@ -36,15 +36,32 @@ impl PendingOutput {
         } else {
             0
         };
-        let rest = bytes.get(count..).unwrap_or(&[]);
-        if rest.is_empty() {
+        self.append(bytes.get(count..).unwrap_or(&[]))
+    }
+
+    /// Appends the bytes to those that are pending.
+    ///
+    /// # Errors
+    ///
+    /// An error of kind `TimedOut` if there are too many bytes, or `OutOfMemory` if an allocation
+    /// fails.
+    pub(crate) fn append(&mut self, bytes: &[u8]) -> io::Result<()> {
+        if bytes.is_empty() {
             return Ok(());
         }
-        if self.bytes.len().saturating_add(rest.len()) > PENDING_OUTPUT_LIMIT {
+        if self.bytes.len().saturating_add(bytes.len()) > PENDING_OUTPUT_LIMIT {
             return Err(io::Error::from(ErrorKind::TimedOut));
         }
-        self.bytes.extend_from_slice(rest)?;
+        self.bytes.extend_from_slice(bytes)?;
         Ok(())
+    }
+
+    /// Discards pending bytes. Returns `false` if the socket has taken some of them.
+    pub(crate) fn discard(&mut self) -> bool {
+        let is_untouched = self.sent == 0;
+        self.bytes = Vec::new(self.alloc);
+        self.sent = 0;
+        is_untouched
     }
 
     /// Writes pending bytes as far as the socket takes them. Returns whether it took any.

@@ -69,6 +69,7 @@ impl<R: Net + Wait + Clock + Eprint + Copy + Drop, P: Policy + Drop, B: PassBran
         self.put_slot(key, ConnectionSlot::Served(connection));
         self.apply_events(key, events);
         self.note_subscriptions(key, subscribed);
+        self.check_hold(key);
         match outcome {
             Ok(_) if self.ending_since.is_some() => self.end_session(key, SessionEnd::Stopped),
             Ok(progress) => self.list_next(key, progress),

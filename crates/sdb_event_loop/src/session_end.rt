@@ -24,6 +24,8 @@ pub(crate) enum SessionEnd {
     NotText,
     /// An allocation failed.
     OutOfMemory,
+    /// Operations can't be saved.
+    Unsaved,
     /// The server is shutting down.
     Stopped,
 }
@@ -37,6 +39,7 @@ impl SessionEnd {
             SessionEnd::Protocol => Some(CloseCode::Protocol),
             SessionEnd::NotText => Some(CloseCode::Invalid),
             SessionEnd::OutOfMemory => Some(CloseCode::Error),
+            SessionEnd::Unsaved => Some(CloseCode::Again),
         }
     }
 }
@@ -52,6 +55,7 @@ impl fmt::Display for SessionEnd {
             SessionEnd::Protocol => "the client violated the protocol, or sent no close frame",
             SessionEnd::NotText => "a text message was not UTF-8",
             SessionEnd::OutOfMemory => "an allocation failed",
+            SessionEnd::Unsaved => "operations could not be saved",
             SessionEnd::Stopped => "the server is shutting down",
         })
     }

@@ -99,7 +99,10 @@ impl<R: Net + Wait + Clock + Eprint + Copy + Drop, P: Policy + Drop, B: PassBran
         let opened = connection.open(self.time, &mut self.buffers.output);
         self.put_slot(key, ConnectionSlot::Served(connection));
         match opened {
-            Ok(()) => self.list_ready(key),
+            Ok(()) => {
+                self.list_ready(key);
+                self.list_held(key);
+            }
             Err(end) => self.end_session(key, end),
         }
     }
@@ -135,6 +138,7 @@ impl<R: Net + Wait + Clock + Eprint + Copy + Drop, P: Policy + Drop, B: PassBran
         let context = &self.context;
         context.state.end_client(&context.rt);
         self.put_closing(key, closing);
+        self.list_held(key);
     }
 
     fn log_report(&self, report: &SessionReport) {

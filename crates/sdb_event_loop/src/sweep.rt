@@ -28,7 +28,8 @@ impl<R: Net + Wait + Clock + Eprint + Copy + Drop, P: Policy + Drop, B: PassBran
     B,
 > {
     /// Checks the deadlines of all connections once a second, and ends all once the server is
-    /// shutting down.
+    /// shutting down. Lists anew whose output is held: a connection may be missing if an allocation
+    /// failed.
     pub(crate) fn sweep(&mut self) {
         let begins_end = self.ending_since.is_none() && self.context.state.is_ending();
         if begins_end {
@@ -39,14 +40,17 @@ impl<R: Net + Wait + Clock + Eprint + Copy + Drop, P: Policy + Drop, B: PassBran
         }
         self.last_sweep = self.time.second;
         let is_crowded = !self.context.state.has_room();
+        let is_unsaved = self.context.state.is_unsaved();
+        self.begin_held_list();
         for key in 0..self.slots.capacity() {
-            let due = self.due_end(key, is_crowded);
+            self.check_hold(key);
+            let due = self.due_end(key, is_crowded, is_unsaved);
             self.end_due(key, due);
         }
     }
 
     // Returns what is due for the connection. Sends a ping to a silent client.
-    fn due_end(&mut self, key: usize, is_crowded: bool) -> DueEnd {
+    fn due_end(&mut self, key: usize, is_crowded: bool, is_unsaved: bool) -> DueEnd {
         let is_ending = self.ending_since.is_some();
         let time = self.time;
         match self.slots.get_mut(key) {
@@ -61,14 +65,16 @@ impl<R: Net + Wait + Clock + Eprint + Copy + Drop, P: Policy + Drop, B: PassBran
                     Err(end) => DueEnd::End(end),
                 }
             }
-            Some(ConnectionSlot::Closing(closing)) => remove_if(closing.is_late(time.second)),
+            Some(ConnectionSlot::Closing(closing)) => {
+                remove_if(closing.is_late(time.second, is_unsaved))
+            }
             _ => DueEnd::None,
         }
     }
 
     fn end_due(&mut self, key: usize, due: DueEnd) {
         match due {
-            DueEnd::None => {}
+            DueEnd::None => self.list_held(key),
             DueEnd::Remove => self.remove(key),
             DueEnd::End(end) => self.end_session(key, end),
             DueEnd::Refuse => self.refuse_awaiting(key),

@@ -136,7 +136,8 @@ where
 {
     let alloc = rt.alloc();
     let (backend, mut host) = Backend::new(alloc, rt)?;
-    let state = loop_server(&rt, backend, table, options, limit, false)?;
+    let server = loop_server(&rt, backend, table, options, limit, false)?;
+    let state = Arc::new(alloc, server)?;
     println!(rt; "listening {}", listener.local_addr()?)?;
     listen_on_loops(rt, alloc, listener, &state, &mut host)?;
     Ok(STATUS_OK)
@@ -165,7 +166,8 @@ where
 {
     let alloc = rt.alloc();
     let (backend, mut host) = Backend::new(alloc, rt)?;
-    let state = loop_server(&rt, backend, table, options, None, true)?;
+    let server = loop_server(&rt, backend, table, options, None, true)?;
+    let state = Arc::new(alloc, server)?;
     let stopped_state = Arc::try_clone(&state)?;
     let waiting = thread::spawn(&rt, move || {
         read_to_end(input);
@@ -182,27 +184,26 @@ where
 
 // Creates the state of the server, which is stopped after this number of sessions, if there is one.
 // The passes of ended sessions are kept if the backend is closed at the end.
-fn loop_server<R: AllocGlobal + Threads + Drop>(
+pub(crate) fn loop_server<R: AllocGlobal + Threads + Drop>(
     rt: &R,
     backend: Backend<R>,
     table: Table,
     options: ServeOptions,
     limit: Option<u64>,
     is_closing: bool,
-) -> Result<Arc<LoopServer<R, Table>, Global>, AllocError>
-    ensures { IfOk result (λ s. (h : HostState) → IsHostOfBackend h backend → IsHostOfLoops h s.value) }
+) -> Result<LoopServer<R, Table>, AllocError>
+    ensures { IfOk result (λ s. (h : HostState) → IsHostOfBackend h backend → IsHostOfLoops h s) }
 {
     let alloc = rt.alloc();
     let state = LoopServer::new(alloc, backend, table, options.loop_options(rt))?;
     let logging = state.with_log(options.is_logging);
     let proxied = logging.with_proxy(options.is_proxied);
     let limited = proxied.with_session_limit(limit);
-    let keeping = limited.with_passes_kept(is_closing);
-    Ok(Arc::new(alloc, keeping)?)
+    Ok(limited.with_passes_kept(is_closing))
 }
 
 // Prints the address of the listener, to standard error if standard output is for the dump.
-fn print_address<R: Print + Eprint>(
+pub(crate) fn print_address<R: Print + Eprint>(
     rt: &R,
     listener: &TcpListener,
     is_dumping: bool,
@@ -217,7 +218,7 @@ fn print_address<R: Print + Eprint>(
 }
 
 // Discards the input up to its end or a failed read.
-fn read_to_end<I: Read + Drop>(mut input: I) {
+pub(crate) fn read_to_end<I: Read + Drop>(mut input: I) {
     let mut bytes = [0; INPUT_CHUNK];
     for _ in 0..u64::MAX {
         match input.read(&mut bytes) {

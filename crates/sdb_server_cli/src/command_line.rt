@@ -27,16 +27,33 @@ const LOOPS_HELP: &str =
 
 const CLIENTS_HELP: &str = "With --listen, serve at most N clients at once; the default is 64";
 
+const DUMP_HELP: &str =
+    "With --until-eof, write a dump of all logs at exit; with --store alone, that of the file";
+
+const CHECK_HELP: &str =
+    "With --store, check the file, and print its numbers of documents and entries";
+
+const LOAD_HELP: &str = "With --store, store the dump at standard input in a new file";
+
+const NO_ADDRESS: &str = "error: --listen takes an address, such as 127.0.0.1:8080";
+
+const NO_DUMP: &str = "error: --dump of a store takes no --listen";
+
+const NO_FILE: &str = "error: --store is an option of the program that opens files";
+
+const NO_STORE: &str = "error: --check, --dump and --load need --store";
+
 fn command<'a>(alloc: Global) -> Result<Command<'a>, AllocError> {
     let command = Command::new(alloc, "sdb_server")
         .about("A ShareDB server for JSON documents")
         .version(VERSION)
-        .arg(lines_option(alloc))?
+        .arg(lines_option(alloc)?)?
         .arg(listen_option(alloc))?;
     let command = with_end_options(alloc, command)?;
     let command = with_serving_options(alloc, command)?;
-    let job = job_group(alloc)?;
-    command.arg(projection_option(alloc))?.group(job)
+    let command = with_store_options(alloc, command)?;
+    let command = command.arg(projection_option(alloc))?;
+    command.group(job_group(alloc)?)?.group(dump_group(alloc)?)
 }
 
 // Adds the options of when the server ends.
@@ -56,14 +73,24 @@ fn with_serving_options<'a>(
     let proxy = proxy_option(alloc)?;
     let loops = number_option(alloc, "loops", LOOPS_HELP, LOOP_LIMIT as u64)?;
     let clients = number_option(alloc, "clients", CLIENTS_HELP, LOOP_CLIENT_LIMIT as u64)?;
-    command.arg(log)?.arg(proxy)?.arg(loops)?.arg(clients)
+    let command = command.arg(log)?.arg(proxy)?;
+    command.arg(loops)?.arg(clients)
 }
 
-fn lines_option<'a>(alloc: Global) -> Arg<'a> {
-    Arg::new(alloc, "lines")
+// Adds the options of a store.
+fn with_store_options<'a>(alloc: Global, command: Command<'a>) -> Result<Command<'a>, AllocError> {
+    let check = store_task_option(alloc, "check", CHECK_HELP)?;
+    let load = store_task_option(alloc, "load", LOAD_HELP)?;
+    let check = check.conflicts_with("load")?;
+    command.arg(store_option(alloc))?.arg(check)?.arg(load)
+}
+
+fn lines_option<'a>(alloc: Global) -> Result<Arg<'a>, AllocError> {
+    let lines = Arg::new(alloc, "lines")
         .long("lines")
         .help("Serve one session of lines on standard input and output")
-        .action(ArgAction::SetTrue)
+        .action(ArgAction::SetTrue);
+    lines.conflicts_with("listen")
 }
 
 fn listen_option<'a>(alloc: Global) -> Arg<'a> {
@@ -106,9 +133,9 @@ fn until_eof_option<'a>(alloc: Global) -> Result<Arg<'a>, AllocError> {
 fn dump_option<'a>(alloc: Global) -> Result<Arg<'a>, AllocError> {
     let dump = Arg::new(alloc, "dump")
         .long("dump")
-        .help("With --until-eof, write a dump of all logs at exit")
+        .help(DUMP_HELP)
         .action(ArgAction::SetTrue);
-    dump.requires_arg("until-eof")
+    dump.requires_arg("dumped")?.conflicts_with("lines")
 }
 
 fn log_option<'a>(alloc: Global) -> Result<Arg<'a>, AllocError> {
@@ -127,6 +154,29 @@ fn proxy_option<'a>(alloc: Global) -> Result<Arg<'a>, AllocError> {
     proxy.requires_arg("log")
 }
 
+fn store_option<'a>(alloc: Global) -> Arg<'a> {
+    Arg::new(alloc, "store")
+        .long("store")
+        .value_name("FILE")
+        .help("Keep all documents in this file")
+        .action(ArgAction::Set)
+}
+
+// Returns the option of a task on a store.
+fn store_task_option<'a>(
+    alloc: Global,
+    name: &'a str,
+    help: &'a str,
+) -> Result<Arg<'a>, AllocError> {
+    let task = Arg::new(alloc, name)
+        .long(name)
+        .help(help)
+        .action(ArgAction::SetTrue);
+    let task = task.requires_arg("store")?.conflicts_with("dump")?;
+    let task = task.conflicts_with("projection")?;
+    task.conflicts_with("lines")?.conflicts_with("listen")
+}
+
 fn projection_option<'a>(alloc: Global) -> Arg<'a> {
     Arg::new(alloc, "projection")
         .long("projection")
@@ -135,13 +185,20 @@ fn projection_option<'a>(alloc: Global) -> Arg<'a> {
         .action(ArgAction::Append)
 }
 
-// Creates the group of options of which exactly one is required: `--lines` and `--listen`.
+// Creates the group of options of which one is required. `--dump` is an option of `--listen` too.
 fn job_group<'a>(alloc: Global) -> Result<ArgGroup<'a>, AllocError> {
-    let job = ArgGroup::new(alloc, "job").required(true);
-    job.arg("lines")?.arg("listen")
+    let job = ArgGroup::new(alloc, "job").required(true).multiple(true);
+    let job = job.arg("lines")?.arg("listen")?;
+    job.arg("check")?.arg("dump")?.arg("load")
 }
 
-/// The mode in which the server runs.
+// Creates the group of options of which `--dump` requires one.
+fn dump_group<'a>(alloc: Global) -> Result<ArgGroup<'a>, AllocError> {
+    let dumped = ArgGroup::new(alloc, "dumped").multiple(true);
+    dumped.arg("until-eof")?.arg("store")
+}
+
+/// The mode in which the program runs. The last three need a store.
 #[derive(Clone, Copy, PartialEq, Eq, Drop)]
 pub enum RunMode {
     /// One session of lines on standard input and output.
@@ -155,22 +212,30 @@ pub enum RunMode {
         /// How clients are served.
         options: ServeOptions,
     },
+    /// The check of a store.
+    Check,
+    /// The dump of a store to standard output.
+    Dump,
+    /// The storing of the dump at standard input in a new store.
+    Load,
 }
 
 /// The options of a command line.
 #[derive(Drop)]
 pub struct Options {
-    /// The mode, or `None` if `--listen` has no valid address.
-    pub job: Option<RunMode>,
+    /// The mode, or the text of the refusal.
+    pub job: Result<RunMode, &'static str>,
     /// The projections, or the reason why one of them is refused.
     pub table: Result<Table, ProjectionOptionError>,
+    /// The path of the file that keeps the documents, if they aren't in memory only.
+    pub store: Option<String>,
 }
 
 /// The outcome of parsing a command line.
 #[derive(Drop)]
 pub enum ParsedArgs {
-    /// A run in this mode with these projections.
-    Run(RunMode, Table),
+    /// A run in this mode with these projections, and with the store at this path if there is one.
+    Run(RunMode, Table, Option<String>),
     /// No run; the program ends with this exit status.
     Help(u8),
 }
@@ -183,18 +248,29 @@ pub enum ParsedArgs {
 /// allocation fails.
 pub fn parse_options(alloc: Global, words: &[String]) -> Result<Options, Error> {
     let matches = command(alloc)?.try_get_matches_from(words)?;
+    let store = match matches.get_str("store") {
+        Some(path) => Some(String::from_str(alloc, path)?),
+        None => None,
+    };
     Ok(Options {
         job: parse_job(&matches),
         table: table_of(alloc, matches.get_strs("projection").unwrap_or(&[])),
+        store,
     })
 }
 
-fn parse_job(matches: &ArgMatches<'_>) -> Option<RunMode> {
+fn parse_job(matches: &ArgMatches<'_>) -> Result<RunMode, &'static str> {
     let Some(address) = matches.get_str("listen") else {
-        return Some(RunMode::Lines);
+        return Ok(parse_other_job(matches));
     };
-    Some(RunMode::Listen {
-        address: address.parse().ok()?,
+    if matches.get_flag("dump") && matches.contains_id("store") {
+        return Err(NO_DUMP);
+    }
+    let Ok(address) = address.parse() else {
+        return Err(NO_ADDRESS);
+    };
+    Ok(RunMode::Listen {
+        address,
         until: parse_stop_condition(matches),
         options: ServeOptions {
             loops: parse_number(matches, "loops"),
@@ -203,6 +279,20 @@ fn parse_job(matches: &ArgMatches<'_>) -> Option<RunMode> {
             is_proxied: matches.get_flag("proxy"),
         },
     })
+}
+
+// Returns the mode of a command line without `--listen`.
+fn parse_other_job(matches: &ArgMatches<'_>) -> RunMode {
+    if matches.get_flag("check") {
+        return RunMode::Check;
+    }
+    if matches.get_flag("dump") {
+        return RunMode::Dump;
+    }
+    if matches.get_flag("load") {
+        return RunMode::Load;
+    }
+    RunMode::Lines
 }
 
 fn parse_number(matches: &ArgMatches<'_>, name: &str) -> Option<usize> {
@@ -223,7 +313,9 @@ fn parse_stop_condition(matches: &ArgMatches<'_>) -> StopCondition {
 }
 
 /// Runs the program with the words of a command line, and returns the exit status. It is 0 for a
-/// complete run, help and version, 1 for a run that failed, and 2 for a refused command line.
+/// complete run, help and version, 1 for a run that failed, and 2 for a refused command line. The
+/// documents are in memory only, and `--store` is refused: [`run_stored`](crate::run_stored) serves
+/// those of a store.
 ///
 /// # Errors
 ///
@@ -236,7 +328,8 @@ where
     R: Copy + Drop + Send + Sync + 'static,
 {
     match parse_run(&rt, words)? {
-        ParsedArgs::Run(job, table) => run_job(rt, job, table),
+        ParsedArgs::Run(mode, table, None) => run_mode(rt, mode, table),
+        ParsedArgs::Run(_, _, Some(_)) => Ok(print_refusal(&rt, NO_FILE)?),
         ParsedArgs::Help(status) => Ok(status),
     }
 }
@@ -255,29 +348,36 @@ where
         Ok(options) => options,
         Err(error) => return Ok(ParsedArgs::Help(print_help_or_error(rt, &error)?)),
     };
-    let Some(job) = options.job else {
-        let error_text = "error: --listen takes an address, such as 127.0.0.1:8080";
-        return Ok(ParsedArgs::Help(print_refusal(rt, error_text)?));
+    let Options { job, table, store } = options;
+    let job = match job {
+        Ok(job) => job,
+        Err(refusal) => return Ok(ParsedArgs::Help(print_refusal(rt, refusal)?)),
     };
-    match options.table {
-        Ok(table) => Ok(ParsedArgs::Run(job, table)),
+    match table {
+        Ok(table) => Ok(ParsedArgs::Run(job, table, store)),
         Err(refusal) => Ok(ParsedArgs::Help(refuse_projections(rt, refusal)?)),
     }
 }
 
-fn run_job<R>(rt: R, job: RunMode, table: Table) -> anyhow::Result<u8>
+/// Runs in a mode, with documents in memory only, and returns the exit status.
+///
+/// # Errors
+///
+/// As [`serve_at`](crate::serve_at).
+pub fn run_mode<R>(rt: R, mode: RunMode, table: Table) -> anyhow::Result<u8>
 where
     R: AllocGlobal + Input<Reader = StdinLock<'static>> + Print + Eprint,
     R: Net<Listener = TcpListener, Stream = TcpStream> + Threads + Wait + Clock,
     R: Copy + Drop + Send + Sync + 'static,
 {
-    match job {
+    match mode {
         RunMode::Lines => Ok(answer_input(&rt, SystemClock::new(&rt), rt.reader(), &table)),
         RunMode::Listen {
             address,
             until,
             options,
         } => serve_clients(rt, address, until, options, table),
+        RunMode::Check | RunMode::Dump | RunMode::Load => Ok(print_refusal(&rt, NO_STORE)?),
     }
 }
 

@@ -1,13 +1,23 @@
 //! The command line of the server: its options, its refusals, and the run of it. The program
-//! `sdb_server_main` calls only [`run`].
+//! `sdb_server_main` calls [`parse_run`], then [`run_mode`], or opens the store for [`run_stored`].
 #![tactic(auto)]
 
 mod clients;
 mod close;
 mod command_line;
+mod load;
 mod projection_option;
+mod store_file;
+mod store_task;
+mod stored;
+mod stored_lines;
 
 pub use clients::{ServeOptions, StopCondition, serve_at, serve_until_end};
 pub use close::print_close;
-pub use command_line::{Options, ParsedArgs, RunMode, answer_input, parse_options, parse_run, run};
+pub use command_line::{
+    Options, ParsedArgs, RunMode, answer_input, parse_options, parse_run, run, run_mode,
+};
+pub use load::LoadedDump;
 pub use projection_option::{ProjectionOptionError, table_of};
+pub use store_file::{print_closed, print_store_fault};
+pub use store_task::{StoreJob, prepare_job, run_stored};

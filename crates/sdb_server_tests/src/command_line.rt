@@ -33,7 +33,7 @@ fn field_count(table: &Table, name: &str) -> Option<usize> {
 fn projections_are_parsed(rt: HostRuntime) {
     let line = "sdb_server --lines --projection t=b:title,,n --projection u=c:x";
     let options = parse(&rt, rt.alloc(), line).expect(&rt, "a run");
-    assert!(rt; options.job == Some(RunMode::Lines));
+    assert!(rt; options.job == Ok(RunMode::Lines));
     let table = options.table.ok().expect(&rt, "a table");
     assert!(rt; field_count(&table, "t") == Some(2) && field_count(&table, "u") == Some(1));
 }
@@ -52,13 +52,13 @@ fn parse_listen(
     alloc: Global,
     line: &str,
 ) -> Option<(u16, StopCondition, Option<bool>)> {
-    match parse(rt, alloc, line)?.job? {
+    match parse(rt, alloc, line)?.job.ok()? {
         RunMode::Listen {
             address,
             until,
             options,
         } => Some((address.port(), until, log_of(options))),
-        RunMode::Lines => None,
+        _ => None,
     }
 }
 
@@ -114,15 +114,38 @@ fn addresses_and_stop_conditions_are_parsed(rt: HostRuntime) {
     }
 }
 
+#[test]
+fn modes_of_a_store_are_parsed(rt: HostRuntime) {
+    for (line, wanted) in [
+        ("sdb_server --store f --lines", Some(RunMode::Lines)),
+        ("sdb_server --store f --check", Some(RunMode::Check)),
+        ("sdb_server --dump --store f", Some(RunMode::Dump)),
+        ("sdb_server --store f --load", Some(RunMode::Load)),
+        ("sdb_server --load", None),
+        ("sdb_server --check --load --store f", None),
+        (
+            "sdb_server --store f --listen 127.0.0.1:0 --until-eof --dump",
+            None,
+        ),
+        ("sdb_server --store f", None),
+    ] {
+        let mode = match parse(&rt, rt.alloc(), line) {
+            Some(options) => options.job.ok(),
+            None => None,
+        };
+        assert!(rt; mode == wanted, "{line}");
+    }
+}
+
 // Returns the numbers of loops and clients of a command line.
 fn parse_loops(
     rt: &impl Abort,
     alloc: Global,
     line: &str,
 ) -> Option<(Option<usize>, Option<usize>)> {
-    match parse(rt, alloc, line)?.job? {
+    match parse(rt, alloc, line)?.job.ok()? {
         RunMode::Listen { options, .. } => Some((options.loops, options.clients)),
-        RunMode::Lines => None,
+        _ => None,
     }
 }
 

@@ -85,10 +85,10 @@ fn init_message(abort: &impl Abort, alloc: Global, number: u64) -> String {
 pub(crate) const SECOND_INIT: &str =
     r#"{"a":"init","id":"s2","protocol":1,"protocolMinor":1,"type":"http://sharejs.org/types/JSONv0"}"#;
 
-const CREATE: &str =
+pub(crate) const CREATE: &str =
     r#"{"a":"op","c":"b","d":"1","v":null,"src":"x","seq":1,"create":{"type":"http://sharejs.org/types/JSONv0","data":{"n":1}}}"#;
 
-const CREATED: &str = r#"{"a":"op","c":"b","d":"1","seq":1,"src":"x","v":0}"#;
+pub(crate) const CREATED: &str = r#"{"a":"op","c":"b","d":"1","seq":1,"src":"x","v":0}"#;
 
 pub(crate) const SUBSCRIBE: &str = r#"{"a":"s","c":"b","d":"1","v":null}"#;
 

@@ -21,4 +21,6 @@ mod loops;
 #[cfg(test)]
 mod nesting;
 #[cfg(test)]
+mod saved_output;
+#[cfg(test)]
 mod wakeups;

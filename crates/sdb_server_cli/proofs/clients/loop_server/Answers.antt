@@ -7,5 +7,4 @@ returns g c = λ h is.
     let logged = subst (λ b. IsHostOfBackend h b) (sym c.with_log-logging.ensures) (c.in_ok-state.ensures h is) in
     let proxied = subst (λ b. IsHostOfBackend h b) (sym c.with_proxy-proxied.ensures) logged in
     let limited = subst (λ b. IsHostOfBackend h b) (sym c.with_session_limit-limited.ensures) proxied in
-    let kept = subst (λ b. IsHostOfBackend h b) (sym c.with_passes_kept-keeping.ensures) limited in
-    subst (λ s. IsHostOfBackend h s.backend) (sym c.in_ok-new.ensures.ok) kept
+    subst (λ b. IsHostOfBackend h b) (sym c.with_passes_kept.ensures) limited

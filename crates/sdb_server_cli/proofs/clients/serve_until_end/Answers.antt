@@ -5,6 +5,7 @@ use Rattle.std.proofs.MapsCrossing as maps
 use Rattle.sdb_projection.specs.contracts.table.Table as Table
 use Rattle.sdb_backend.specs.PassModel.{IsHostOfBackend, IsPassOfBackend}
 use Rattle.sdb_growlock.specs.LockRule.{ForEach}
+use Rattle.sdb_event_loop.specs.LoopModel.{IsHostOfLoops}
 use Rattle.sdb_event_loop.proofs.SendSync.{LoopServer-send, LoopServer-sync}
 use Rattle.sdb_server_cli.proofs.clients.serve_until_end.Goals as goal
 
@@ -15,7 +16,9 @@ Table-sync : IsSync Table.the_row
 Table-sync = search (sendable, crosses, maps.crosses) depth 20
 
 pub listen_on_loops-requires-after_bounds : goal.listen_on_loops-requires-after_bounds
-listen_on_loops-requires-after_bounds g c κs within = c.in_ok-state.ensures c.in_ok-backend.host c.in_ok-backend.ensures.host
+listen_on_loops-requires-after_bounds g c κs within =
+    let host = c.in_ok-backend.host in
+    subst (λ s. IsHostOfLoops host s) (sym c.in_ok-state.ensures.ok) (c.in_ok-server.ensures host c.in_ok-backend.ensures.host)
 
 pub spawn-requires-send-F : goal.spawn-requires-send-F
 spawn-requires-send-F g c κs within =

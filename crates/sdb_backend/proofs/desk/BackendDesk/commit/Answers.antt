@@ -1,14 +1,13 @@
-use Rattle.std.proofs.Common.{◌≡◌, sym, subst, ap, ◌∙◌}
+use Rattle.std.proofs.Common.{◌≡◌, sym, subst}
 use Rattle.sdb_oplog.specs.Keys.{plain_key, shard_of}
-use Rattle.sdb_desk.specs.ShardView.{machine_of, logs_of}
+use Rattle.sdb_desk.specs.ShardView.{logs_of}
 use Rattle.sdb_desk.specs.Looks.{IsLook}
 use Rattle.sdb_desk.specs.Machine.{PlainOutcome}
-use Rattle.sdb_desk.specs.View.{plain_outcome, outcome_of_decision}
-use Rattle.sdb_submit.specs.Calls.{commit, MachineStep, OnMoved}
+use Rattle.sdb_desk.specs.View.{outcome_of_decision}
+use Rattle.sdb_submit.specs.Calls.{OnMoved}
 use Rattle.sdb_submit.specs.laws.SubmitLaws.{moved_is_look}
 use Rattle.sdb_striped_lock.specs.laws.SeatLaws.{have_seen_unique}
 use Rattle.sdb_backend.specs.CallAnswers.{IsLookSeenBy}
-use Rattle.sdb_backend.specs.PassModel.{pass_number}
 use Rattle.sdb_backend.specs.declared.shard_value.Held.{Held}
 use Rattle.sdb_backend.proofs.SeenLemmas.{is_look_of_extension, map_moved}
 use Rattle.sdb_backend.proofs.desk.BackendDesk.commit.Goals as goal
@@ -29,4 +28,4 @@ returns-clause-seen g c =
     let a = c.args.work.now in
     let o = outcome_of_decision a c.run-decision.result in
     subst (λ (r : PlainOutcome). OnMoved r (λ l. IsLookSeenBy c.run-decision.new.pass k (record { submission = a.submission; look = l }))) (sym c.finish.ensures.outcome)
-    (map_moved o (λ l h. (d.2, d.7, h)) (moved_is_look (logs_of d.1.shard) (logs_of d.2.shard) k a c.args.now o d.6.0))
+    (map_moved o (λ l h. (d.2, d.7, h)) (moved_is_look (logs_of d.1.shard) (logs_of d.2.shard) k a c.args.now o d.6.0.0))

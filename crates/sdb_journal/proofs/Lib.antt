@@ -1,0 +1,6 @@
+mod Decides
+mod Exact
+mod Items
+mod RestoredLines
+mod Restores
+mod StoreRuns

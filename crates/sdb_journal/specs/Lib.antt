@@ -1,0 +1,5 @@
+pub mod JournalLaws
+pub mod JournalModel
+pub mod JournalText
+pub mod StoreMachine
+pub mod StoreMachineLaws

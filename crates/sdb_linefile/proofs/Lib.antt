@@ -1,0 +1,5 @@
+mod Adding
+mod Opened
+mod Reading
+mod Receipts
+mod Statements

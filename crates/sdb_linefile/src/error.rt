@@ -1,0 +1,70 @@
+//! The errors of a file of lines.
+use sqlite::{Error as SqliteError, ErrorCode};
+use thiserror::Error;
+
+/// The reason why a file of lines isn't opened, read or written.
+#[derive(Clone, Copy, Debug, PartialEq, Eq, Error)]
+pub enum LineFileError {
+    /// Another process has the file open.
+    #[error("another process has the file open")]
+    Busy,
+    /// The file can't be opened or created at this path.
+    #[error("cannot open the file")]
+    CannotOpen,
+    /// The file is a database of another program.
+    #[error("the file belongs to another program")]
+    ForeignFile,
+    /// The file is no database, or it is damaged.
+    #[error("the file is damaged or no database")]
+    Damaged,
+    /// The row of the table at this place, from 1 on, hasn't this number, or it has no line.
+    #[error("damaged at line {line}")]
+    WrongLine { line: u64 },
+    /// The sink refused the line with this number, from 1 on.
+    #[error("line {line} is refused")]
+    Refused { line: u64 },
+    /// A line is longer than the file format permits.
+    #[error("a line is too long")]
+    LineTooLong,
+    /// No number is left for a line.
+    #[error("too many lines")]
+    TooManyLines,
+    /// The disk is full.
+    #[error("the disk is full")]
+    DiskFull,
+    /// The disk failed to read, write or sync.
+    #[error("disk input or output failed")]
+    DiskFailed,
+    /// An earlier failure of the disk closed the file.
+    #[error("an earlier failure closed the file")]
+    Closed,
+    /// An allocation failed.
+    #[error("out of memory")]
+    OutOfMemory,
+    /// `sqlite` refused a statement. No statement of this crate is refused on a file of lines.
+    #[error("a statement was refused")]
+    StatementRefused,
+}
+
+impl From<SqliteError> for LineFileError {
+    ghost use Rattle.std.specs.Prelude.{◌≡◌};
+    ghost use Rattle.sdb_linefile.specs.Causes.{cause_of};
+
+    ghost from_gives = { λ error cause. cause ≡ cause_of error };
+
+    fn from(error: SqliteError) -> LineFileError {
+        match error {
+            SqliteError::SqliteFailure(ErrorCode::DatabaseBusy) => LineFileError::Busy,
+            SqliteError::SqliteFailure(ErrorCode::CannotOpen) => LineFileError::CannotOpen,
+            SqliteError::SqliteFailure(ErrorCode::NotADatabase) => LineFileError::Damaged,
+            SqliteError::SqliteFailure(ErrorCode::DatabaseCorrupt) => LineFileError::Damaged,
+            SqliteError::SqliteFailure(ErrorCode::TooBig) => LineFileError::LineTooLong,
+            SqliteError::SqliteFailure(ErrorCode::NoRowid) => LineFileError::TooManyLines,
+            SqliteError::SqliteFailure(ErrorCode::DiskFull) => LineFileError::DiskFull,
+            SqliteError::SqliteFailure(ErrorCode::SystemIoFailure) => LineFileError::DiskFailed,
+            SqliteError::SqliteFailure(ErrorCode::Closed) => LineFileError::Closed,
+            SqliteError::SqliteFailure(ErrorCode::OutOfMemory) => LineFileError::OutOfMemory,
+            _ => LineFileError::StatementRefused,
+        }
+    }
+}

@@ -1,0 +1,23 @@
+//! A file of lines that survive a crash, over the `sqlite` of the toolchain.
+//!
+//! [`open_or_create`] opens the file, [`UnreadFile::restore`] passes its lines to a [`LineSink`] in
+//! the order of storing, and [`LineFile::store_group`] stores a group of lines in one transaction.
+//! A [`Receipt`] has the lines that were stored and their numbers.
+#![tactic(auto)]
+
+mod crash;
+mod error;
+pub mod laws;
+mod line_file;
+mod line_table;
+mod opening;
+mod receipt;
+mod restoring;
+mod storing;
+
+pub use crash::crash_and_reopen;
+pub use error::LineFileError;
+pub use line_file::{LineFile, UnreadFile};
+pub use opening::{adopt, close, open_or_create};
+pub use receipt::Receipt;
+pub use restoring::LineSink;

@@ -1,0 +1,253 @@
+//! Serving clients whose operations are saved in a file.
+ghost use Rattle.std.specs.Prelude.{IfOk};
+ghost use Rattle.sdb_backend.specs.PassModel.{IsHostOfBackend, IsPassOfBackend};
+ghost use Rattle.sdb_event_loop.specs.LoopModel.{IsHostOfLoops, loops_backend};
+ghost use Rattle.sdb_store.specs.SaverModel.{saver_pass};
+
+use crate::clients::{ServeOptions, StopCondition, loop_server, print_address, read_to_end};
+use crate::store_file::{FileWriter, print_store_fault, restore};
+use sdb_backend::{Counts, Host};
+use sdb_cli::{STATUS_FAULT, STATUS_OK};
+use sdb_event_loop::{LoopServer, listen_on_loops};
+use sdb_linefile::{LineFile, UnreadFile};
+use sdb_progress::SaveProgress;
+use sdb_projection::Table;
+use sdb_store::{LineWriter, RestoredBackend, RoundListener, SaveFault, Saver, save_until_closed};
+use sqlite::Alter;
+use std::alloc::{AllocError, Global};
+use std::io::{Read, StdinLock};
+use std::net::{Net, SocketAddr, TcpListener, TcpStream};
+use std::sync::{Arc, Wait};
+use std::thread;
+use std::thread::{JoinHandle, Threads};
+use std::time::Clock;
+
+/// Restores the documents of the file, serves clients, and saves each stored operation in the file
+/// before a client is sent it. Returns the exit status, and the file if it was served.
+pub(crate) fn serve_file<R, S>(
+    rt: R,
+    file: UnreadFile<S>,
+    address: SocketAddr,
+    until: StopCondition,
+    options: ServeOptions,
+    table: Table,
+) -> anyhow::Result<(u8, Option<LineFile<S>>)>
+where
+    R: AllocGlobal + Input<Reader = StdinLock<'static>> + Print + Eprint,
+    R: Net<Listener = TcpListener, Stream = TcpStream> + Threads + Wait + Clock,
+    R: Copy + Drop + Send + Sync + 'static,
+    S: Alter + Drop + Send + 'static,
+{
+    let (file, restored) = match restore(rt, file)? {
+        Ok(both) => both,
+        Err(error) => return Ok((print_store_fault(&rt, error)?, None)),
+    };
+    match TcpListener::bind(&rt, address) {
+        Ok(listener) => {
+            let writer = FileWriter { file };
+            let served = serve_saved(rt, listener, until, options, table, restored, writer);
+            let (status, FileWriter { file }) = served?;
+            Ok((status, Some(file)))
+        }
+        Err(error) => {
+            eprintln!(rt; "error: cannot listen on {address}: {error}")?;
+            Ok((STATUS_FAULT, Some(file)))
+        }
+    }
+}
+
+// The loops of a server, which are woken after each round.
+#[derive(Drop)]
+struct LoopListener<'a, R> {
+    rt: R,
+    state: &'a LoopServer<R, Table>,
+}
+
+impl<R: Wait> RoundListener for LoopListener<'_, R> {
+    fn notify(&self) {
+        self.state.notify_committed(&self.rt);
+    }
+}
+
+// The thread that saves the operations of a server.
+#[derive(Drop)]
+struct SavingThread<R, W> {
+    rt: R,
+    state: Arc<LoopServer<R, Table>, Global>,
+    saver: Saver,
+    writer: W,
+    progress: Arc<SaveProgress, Global>,
+    ghost pass_belongs: { IsPassOfBackend (saver_pass saver) (loops_backend state.value) },
+}
+
+impl<R: Wait + Clock + Copy + Drop, W: LineWriter + Drop> SavingThread<R, W> {
+    // Saves operations until the server has ended. If nothing can be saved, it stops the server.
+    // Returns the writer too.
+    fn run(self) -> (Result<(), SaveFault>, W) {
+        let SavingThread {
+            rt,
+            state,
+            mut saver,
+            mut writer,
+            progress,
+        } = self;
+        let listener = LoopListener { rt, state: &state };
+        let backend = state.backend();
+        let saved = save_until_closed(&rt, backend, &mut saver, &mut writer, &progress, &listener);
+        if saved.is_err() {
+            state.stop(&rt);
+        }
+        (saved, writer)
+    }
+}
+
+// Creates the saver of a server, with a pass of its own. From now on stored operations are listed.
+fn create_saver<R: Wait + Drop>(
+    alloc: Global,
+    state: &LoopServer<R, Table>,
+    host: &mut Host,
+    reserved: u64,
+) -> Result<Saver, AllocError>
+    requires { IsHostOfLoops host.old state.now }
+    ensures host { IsHostOfLoops host.new state.now }
+    ensures pass { IfOk result (λ saver. IsPassOfBackend (saver_pass saver) (loops_backend state.now)) }
+{
+    let backend = state.backend();
+    match backend.enter(host) {
+        Ok(mut pass) => {
+            backend.list_unsaved(&mut pass);
+            Ok(Saver::new(alloc, pass, reserved))
+        }
+        Err(_) => Err(AllocError),
+    }
+}
+
+// Starts the thread that saves the operations of a server.
+fn start_saving<R, W>(
+    rt: R,
+    state: &Arc<LoopServer<R, Table>, Global>,
+    saver: Saver,
+    writer: W,
+    progress: &Arc<SaveProgress, Global>,
+) -> anyhow::Result<JoinHandle<(Result<(), SaveFault>, W)>>
+where
+    R: Threads + Wait + Clock + Copy + Drop + Send + Sync + 'static,
+    W: LineWriter + Drop + Send + 'static,
+    requires { IsPassOfBackend (saver_pass saver) (loops_backend state.now.value) }
+{
+    let state = Arc::try_clone(state)?;
+    let progress = Arc::try_clone(progress)?;
+    let saving = SavingThread {
+        rt,
+        state,
+        saver,
+        writer,
+        progress,
+    };
+    Ok(thread::spawn(&rt, move || saving.run())?)
+}
+
+// Serves clients, and saves each stored operation before it is sent. Returns the exit status and the
+// writer.
+fn serve_saved<R, W>(
+    rt: R,
+    listener: TcpListener,
+    until: StopCondition,
+    options: ServeOptions,
+    table: Table,
+    restored: RestoredBackend<R>,
+    writer: W,
+) -> anyhow::Result<(u8, W)>
+where
+    R: AllocGlobal + Input<Reader = StdinLock<'static>> + Print + Eprint,
+    R: Net<Listener = TcpListener, Stream = TcpStream> + Threads + Wait + Clock,
+    R: Copy + Drop + Send + Sync + 'static,
+    W: LineWriter + Drop + Send + 'static,
+    requires { IsHostOfBackend restored.host restored.backend }
+{
+    let alloc = rt.alloc();
+    let RestoredBackend {
+        backend,
+        mut host,
+        highest_number,
+    } = restored;
+    let progress = Arc::new(alloc, SaveProgress::new(highest_number))?;
+    let server = loop_server(&rt, backend, table, options, session_limit(until), false)?;
+    let shared = Arc::try_clone(&progress)?;
+    let state = Arc::new(alloc, server.with_progress(shared))?;
+    let saver = create_saver(alloc, &state, &mut host, highest_number)?;
+    let saving = start_saving(rt, &state, saver, writer, &progress)?;
+    let served = serve_until(rt, listener, until, &state, &mut host);
+    progress.close();
+    let (saved, writer) = saving.join(&rt);
+    let status = print_end(&rt, until, saved, served, state.backend().counts())?;
+    Ok((status, writer))
+}
+
+// Returns the number of sessions after which the server is stopped.
+fn session_limit(until: StopCondition) -> Option<u64> {
+    match until {
+        StopCondition::Served(count) => Some(count),
+        StopCondition::Never | StopCondition::Eof { .. } => None,
+    }
+}
+
+// Serves clients until the stop condition holds.
+fn serve_until<R>(
+    rt: R,
+    listener: TcpListener,
+    until: StopCondition,
+    state: &Arc<LoopServer<R, Table>, Global>,
+    host: &mut Host,
+) -> anyhow::Result<()>
+where
+    R: AllocGlobal + Input<Reader = StdinLock<'static>> + Print + Eprint,
+    R: Net<Listener = TcpListener, Stream = TcpStream> + Threads + Wait + Clock,
+    R: Copy + Drop + Send + Sync + 'static,
+    requires { IsHostOfLoops host.old state.now.value }
+{
+    if let StopCondition::Eof { .. } = until {
+        stop_at_end(rt, rt.reader(), state)?;
+    }
+    print_address(&rt, &listener, false)?;
+    listen_on_loops(rt, rt.alloc(), listener, state, host)?;
+    Ok(())
+}
+
+// Starts a thread that stops the server at the end of the input.
+fn stop_at_end<R, I>(
+    rt: R,
+    input: I,
+    state: &Arc<LoopServer<R, Table>, Global>,
+) -> anyhow::Result<()>
+where
+    R: Threads + Wait + Copy + Drop + Send + Sync + 'static,
+    I: Read + Drop + Send + 'static,
+{
+    let stopped_state = Arc::try_clone(state)?;
+    thread::spawn(&rt, move || {
+        read_to_end(input);
+        stopped_state.stop(&rt);
+    })?;
+    Ok(())
+}
+
+// Prints how a run has ended, and returns the exit status.
+fn print_end<R: Print + Eprint>(
+    rt: &R,
+    until: StopCondition,
+    saved: Result<(), SaveFault>,
+    served: anyhow::Result<()>,
+    counts: Counts,
+) -> anyhow::Result<u8> {
+    if let Err(fault) = saved {
+        eprintln!(rt; "store: {fault}")?;
+        return Ok(STATUS_FAULT);
+    }
+    served?;
+    if let StopCondition::Eof { .. } = until {
+        let Counts { documents, entries } = counts;
+        eprintln!(rt; "ended: {documents} documents, {entries} operations")?;
+    }
+    Ok(STATUS_OK)
+}

@@ -1,0 +1,200 @@
+//! Tests of a server whose output is held until operations are saved. The tests commit the rounds.
+ghost use Rattle.std.specs.Prelude.{IfOk};
+ghost use Rattle.sdb_backend.specs.PassModel.{IsHostOfBackend};
+ghost use Rattle.sdb_backend.specs.declared.pass.Host.{Host as HostState};
+ghost use Rattle.sdb_event_loop.specs.LoopModel.{IsHostOfLoops};
+
+use crate::clients::{Client, FIRST_INIT, connect_websocket, expect_close, expect_text, send_text};
+use crate::connections::{CREATE, CREATED, FETCH, SECOND_INIT, SUBSCRIBE, SUBSCRIBED};
+use sdb_backend::Backend;
+use sdb_event_loop::{LoopOptions, LoopServer, listen_on_loops};
+use sdb_progress::SaveProgress;
+use sdb_projection::Table;
+use std::alloc::{AllocError, Global};
+use std::net::{Net, SocketAddr, TcpListener, TcpStream};
+use std::process::Abort;
+use std::sync::{Arc, Wait};
+use std::test::Fail;
+use std::thread;
+use std::thread::Threads;
+use std::time::{Clock, Duration};
+use tungstenite::CloseCode;
+
+const OPTIONS: LoopOptions = LoopOptions {
+    loops: 1,
+    clients: 2,
+};
+
+// The highest number of a session that each round reserves.
+const RESERVED: u64 = 64;
+
+// Time in milliseconds for which no message must come.
+const QUIET_MS: u64 = 300;
+
+// The read timeout of a client, and the longest wait for a request, in seconds.
+const PATIENCE_SECONDS: u64 = 20;
+
+// The number of failures, one each second, after which sessions are closed.
+const FAILURE_COUNT: u64 = 30;
+
+// Creates the state of a server that has saved nothing.
+fn saving_server<R: Drop>(
+    alloc: Global,
+    backend: Backend<R>,
+    progress: &Arc<SaveProgress, Global>,
+) -> Result<Arc<LoopServer<R, Table>, Global>, AllocError>
+    ensures { IfOk result (λ s. (h : HostState) → IsHostOfBackend h backend → IsHostOfLoops h s.value) }
+{
+    let progress = Arc::try_clone(progress)?;
+    let state = LoopServer::new(alloc, backend, Table::new(alloc), OPTIONS)?;
+    let saving = state.with_progress(progress);
+    Ok(Arc::new(alloc, saving)?)
+}
+
+// Waits until a round is requested.
+fn await_request<H: Abort + Wait>(abort: &H, progress: &SaveProgress) {
+    progress.wait(abort, Duration::from_secs(PATIENCE_SECONDS));
+}
+
+// Commits a round.
+fn commit<R: Drop, H: Abort + Wait>(
+    abort: &H,
+    progress: &SaveProgress,
+    state: &LoopServer<R, Table>,
+) {
+    let round = progress.begin_round();
+    progress.end_round(round, RESERVED);
+    state.notify_committed(abort);
+}
+
+// Checks that no message comes.
+fn expect_nothing(abort: &impl Abort, client: &mut Client) {
+    let quiet = Some(Duration::from_millis(QUIET_MS));
+    let usual = Some(Duration::from_secs(PATIENCE_SECONDS));
+    assert!(abort; client.get_mut().set_read_timeout(quiet).is_ok());
+    assert!(abort; client.read().is_err());
+    assert!(abort; client.get_mut().set_read_timeout(usual).is_ok());
+}
+
+// Checks that a message comes only after a round that is requested for it.
+fn expect_once_saved<R: Drop, H: Abort + Wait>(
+    abort: &H,
+    progress: &SaveProgress,
+    state: &LoopServer<R, Table>,
+    client: &mut Client,
+    text: &str,
+) {
+    await_request(abort, progress);
+    expect_nothing(abort, client);
+    commit(abort, progress, state);
+    expect_text(abort, client, text);
+}
+
+// The first client gets no session before its number is reserved, and each answer once it is saved. If
+// saving fails for long it is closed, and the answer that wasn't saved isn't sent.
+fn fail_to_save<R: Drop, H: Abort + Wait>(
+    abort: &H,
+    alloc: Global,
+    progress: &SaveProgress,
+    state: &LoopServer<R, Table>,
+    client: &mut Client,
+) {
+    await_request(abort, progress);
+    expect_nothing(abort, client);
+    commit(abort, progress, state);
+    expect_once_saved(abort, progress, state, client, FIRST_INIT);
+    send_text(abort, alloc, client, CREATE);
+    expect_once_saved(abort, progress, state, client, CREATED);
+    send_text(abort, alloc, client, FETCH);
+    await_request(abort, progress);
+    for _ in 0..FAILURE_COUNT {
+        progress.record_failure();
+    }
+    state.notify_committed(abort);
+    expect_close(abort, client, CloseCode::Again);
+}
+
+// The session of the second client ends as the server is stopped. Its last answer is sent once it is
+// saved, and then the close.
+fn save_after_stop<R: Drop, H: Abort + Wait>(
+    abort: &H,
+    alloc: Global,
+    progress: &SaveProgress,
+    state: &LoopServer<R, Table>,
+    client: &mut Client,
+) {
+    expect_once_saved(abort, progress, state, client, SECOND_INIT);
+    send_text(abort, alloc, client, SUBSCRIBE);
+    await_request(abort, progress);
+    state.stop(abort);
+    expect_once_saved(abort, progress, state, client, SUBSCRIBED);
+    expect_close(abort, client, CloseCode::Away);
+}
+
+// The session of the second client ends after nothing more is saved. It receives the close alone.
+fn stop_unsaved<R: Drop, H: Abort + Wait>(
+    abort: &H,
+    alloc: Global,
+    progress: &SaveProgress,
+    state: &LoopServer<R, Table>,
+    client: &mut Client,
+) {
+    expect_once_saved(abort, progress, state, client, SECOND_INIT);
+    send_text(abort, alloc, client, SUBSCRIBE);
+    await_request(abort, progress);
+    expect_nothing(abort, client);
+    progress.end();
+    state.stop(abort);
+    expect_close(abort, client, CloseCode::Away);
+}
+
+fn use_and_stop<R: Drop, H: Abort + Wait>(
+    abort: &H,
+    rt: HostRuntime,
+    alloc: Global,
+    address: SocketAddr,
+    progress: &SaveProgress,
+    state: &LoopServer<R, Table>,
+    is_saved: bool,
+) {
+    let mut first = connect_websocket(abort, rt, alloc, address);
+    fail_to_save(abort, alloc, progress, state, &mut first);
+    commit(abort, progress, state);
+    let mut second = connect_websocket(abort, rt, alloc, address);
+    if is_saved {
+        save_after_stop(abort, alloc, progress, state, &mut second);
+    } else {
+        stop_unsaved(abort, alloc, progress, state, &mut second);
+    }
+}
+
+// Serves two clients. `is_saved` says whether operations are saved until the end.
+fn serve_two<R>(rt: R, client_rt: HostRuntime, is_saved: bool) -> Result<(), Fail>
+where
+    R: Abort + AllocGlobal + Eprint + Net<Listener = TcpListener, Stream = TcpStream>,
+    R: Threads + Wait + Clock + Drop + Copy + Send + Sync + 'static,
+{
+    let alloc = rt.alloc();
+    let listener = TcpListener::bind(&rt, "127.0.0.1:0")?;
+    let address = listener.local_addr()?;
+    let (backend, mut host) = Backend::new(alloc, rt)?;
+    let progress = Arc::new(alloc, SaveProgress::new(0))?;
+    let state = saving_server(alloc, backend, &progress)?;
+    let theirs = Arc::try_clone(&state)?;
+    let clients = thread::spawn(&rt, move || {
+        use_and_stop(&rt, client_rt, alloc, address, &progress, &theirs, is_saved)
+    })?;
+    listen_on_loops(rt, alloc, listener, &state, &mut host)?;
+    clients.join(&rt);
+    Ok(())
+}
+
+#[test]
+fn output_is_held_until_it_is_saved(rt: HostRuntime) -> Result<(), Fail> {
+    serve_two(rt, rt, true)
+}
+
+#[test]
+fn output_is_discarded_if_nothing_more_is_saved(rt: HostRuntime) -> Result<(), Fail> {
+    serve_two(rt, rt, false)
+}

@@ -1,0 +1,4 @@
+mod AddsLemmas
+mod BetweenLemmas
+mod CloseLemmas
+mod EachLemmas

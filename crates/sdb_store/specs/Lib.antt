@@ -1,0 +1,2 @@
+pub mod RestorerModel
+pub mod SaverModel

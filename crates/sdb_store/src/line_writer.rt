@@ -1,0 +1,32 @@
+//! Where the lines of a journal are written.
+
+/// The reason why a group of lines isn't committed.
+#[derive(Clone, Copy, PartialEq, Eq, Debug, Drop)]
+pub enum WriteFault {
+    /// Nothing is written, and the call can be repeated.
+    Retry,
+    /// No call will succeed. A part of the group may be written.
+    Closed,
+}
+
+/// A journal to which groups of lines are appended.
+pub trait LineWriter {
+    ghost use Rattle.std.specs.Prelude.{◌≡◌, ◌++◌, ℕ, List, OnOk, IfErr};
+    ghost use Rattle.sdb_store.specs.SaverModel.{lines_of};
+
+    // The disk has returned what was written to it.
+    ghost trusts: { Self → Type 0 };
+
+    // Each crash leaves exactly these lines.
+    ghost has_lines: { List (List ℕ) → Self → Type 0 };
+
+    /// Appends the lines, and commits them: after `Ok` a crash leaves all of them.
+    ///
+    /// # Errors
+    ///
+    /// The cause, with the group. A crash leaves all lines of the group or none.
+    fn write(&mut self, group: Vec<Vec<u8>>) -> Result<(), (WriteFault, Vec<Vec<u8>>)>
+        ensures committed { trusts self.new → OnOk result ((before : List (List ℕ)) → has_lines before self.old
+            → has_lines (before ++ lines_of group.items) self.new) }
+        ensures returned { IfErr result (λ e. e.1 ≡ group) };
+}

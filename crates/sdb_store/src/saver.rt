@@ -1,0 +1,255 @@
+//! Taking stored entries from a backend, and writing their lines.
+ghost use Rattle.std.specs.Prelude.{◌≡◌, ◌⊎◌, ◌++◌, ◌∷◌, [], List, ℕ, IfOk, OnOk, OnErr};
+ghost use Rattle.sdb_journal.specs.JournalText.{number_line};
+ghost use Rattle.sdb_journal.specs.StoreMachine.{IsIn};
+ghost use Rattle.sdb_backend.specs.PassModel.{IsPassOfBackend};
+ghost use Rattle.sdb_store.specs.SaverModel.{lines_of, saver_pass, unwritten_lines, reserved_number, HasBlockLine, IsJournalLine, AddsLines, CommitsRound};
+
+use crate::line_writer::{LineWriter, WriteFault};
+use sdb_backend::{Backend, EntryAt, Pass, SHARD_COUNT};
+use sdb_journal::{entry_line, number_line};
+use sdb_submit::Desk;
+use std::alloc::{AllocError, Global};
+use std::sync::Wait;
+use thiserror::Error;
+
+// Number of the numbers of a block.
+const BLOCK_SIZE: u64 = 1_024;
+
+/// The reason why a round isn't committed.
+#[derive(Clone, Copy, PartialEq, Eq, Debug, Error)]
+pub enum SaveFault {
+    /// An allocation failed. Nothing is lost, and the round can be repeated.
+    #[error("out of memory")]
+    OutOfMemory,
+    /// The lines can't be written now. Nothing is lost, and the round can be repeated.
+    #[error("the lines can't be written")]
+    Retry,
+    /// The journal is closed by a failure.
+    #[error("the journal is closed by a failure")]
+    Closed,
+    /// The list of stored entries isn't complete.
+    #[error("the list of stored entries isn't complete")]
+    Incomplete,
+}
+
+impl SaveFault {
+    /// Returns whether the round can be repeated.
+    pub fn is_temporary(self) -> bool {
+        matches!(self, SaveFault::OutOfMemory | SaveFault::Retry)
+    }
+}
+
+impl From<AllocError> for SaveFault {
+    fn from(_error: AllocError) -> SaveFault {
+        SaveFault::OutOfMemory
+    }
+}
+
+impl From<WriteFault> for SaveFault {
+    fn from(fault: WriteFault) -> SaveFault {
+        match fault {
+            WriteFault::Retry => SaveFault::Retry,
+            WriteFault::Closed => SaveFault::Closed,
+        }
+    }
+}
+
+/// Saves the entries that a backend [lists](Backend::list_unsaved), with a pass of its own.
+#[derive(Drop)]
+pub struct Saver {
+    alloc: Global,
+    pub(crate) pass: Pass,
+    // The entries of a shard that were taken last, and how many of them have a line in the group.
+    taken: Vec<EntryAt>,
+    position: usize,
+    // The lines that are to be written.
+    group: Vec<Vec<u8>>,
+    // The highest number of the written blocks, and of the group's.
+    reserved: u64,
+    group_reserved: u64,
+}
+
+impl Saver {
+    /// Creates the saver of a journal by which numbers up to `reserved` may be given to sessions.
+    pub fn new(alloc: Global, pass: Pass, reserved: u64) -> Saver
+        ensures pass { saver_pass result ≡ pass }
+        ensures reserved { reserved_number result ≡ reserved }
+        ensures nothing_unwritten { (unwritten_lines result ≡ []) × HasBlockLine result }
+    {
+        Saver {
+            alloc,
+            pass,
+            taken: Vec::new(alloc),
+            position: 0,
+            group: Vec::new(alloc),
+            reserved,
+            group_reserved: reserved,
+        }
+    }
+
+    /// Returns the highest number that may be given to a session.
+    pub fn reserved(&self) -> u64
+        ensures { result ≡ reserved_number self.now }
+    {
+        self.reserved
+    }
+
+    /// Takes all listed entries, and writes their lines as one group; also a block of numbers, if
+    /// numbers up to `number` aren't reserved.
+    ///
+    /// # Errors
+    ///
+    /// [`SaveFault::Retry`], [`SaveFault::Closed`] if the writer fails, [`SaveFault::OutOfMemory`] if
+    /// an allocation fails, [`SaveFault::Incomplete`] if the backend's list isn't complete.
+    pub fn save_round<R: Wait + Drop, W: LineWriter>(
+        &mut self,
+        backend: &Backend<R>,
+        writer: &mut W,
+        number: u64,
+    ) -> Result<(), SaveFault>
+        requires { IsPassOfBackend (saver_pass self.old) backend.now }
+        ensures pass { IsPassOfBackend (saver_pass self.new) backend.now }
+        ensures committed { W.trusts writer.new → OnOk result
+            (CommitsRound W.has_lines backend.now self.old self.new writer.old writer.new) }
+        ensures kept_on_err { OnErr result (AddsLines backend.now self.old self.new) }
+        ensures block { HasBlockLine self.old → HasBlockLine self.new }
+    {
+        self.add_block(backend, number)?;
+        self.add_entries(backend)?;
+        self.write_group(writer)
+    }
+
+    // Adds a block of numbers to the group, unless numbers up to this one are reserved.
+    fn add_block<R>(&mut self, backend: &Backend<R>, number: u64) -> Result<(), SaveFault>
+        ensures pass { saver_pass self.new ≡ saver_pass self.old }
+        ensures added { AddsLines backend.now self.old self.new }
+    {
+        if number <= self.group_reserved {
+            return Ok(());
+        }
+        let reserved = number.saturating_add(BLOCK_SIZE - 1);
+        let line = number_line(self.alloc, reserved)?;
+        push_line(&mut self.group, line)?;
+        self.group_reserved = reserved;
+        Ok(())
+    }
+
+    // Adds the lines of the listed entries of all shards to the group.
+    fn add_entries<R: Wait + Drop>(&mut self, backend: &Backend<R>) -> Result<(), SaveFault>
+        requires { IsPassOfBackend (saver_pass self.old) backend.now }
+        ensures pass { IsPassOfBackend (saver_pass self.new) backend.now }
+        ensures added { AddsLines backend.now self.old self.new }
+    {
+        self.add_taken(backend)?;
+        for shard in 0..SHARD_COUNT {
+            let Some(taken) = backend.take_unsaved(&mut self.pass, shard) else {
+                return Err(SaveFault::Incomplete);
+            };
+            self.taken = taken;
+            self.position = 0;
+            self.add_taken(backend)?;
+        }
+        Ok(())
+    }
+
+    // Adds the lines of the taken entries to the group.
+    fn add_taken<R: Wait + Drop>(&mut self, backend: &Backend<R>) -> Result<(), SaveFault>
+        requires { IsPassOfBackend (saver_pass self.old) backend.now }
+        ensures pass { IsPassOfBackend (saver_pass self.new) backend.now }
+        ensures added { AddsLines backend.now self.old self.new }
+    {
+        for position in self.position..self.taken.len() {
+            self.add_line_at(backend, position)?;
+        }
+        Ok(())
+    }
+
+    // Adds the line of a taken entry to the group.
+    fn add_line_at<R: Wait + Drop>(
+        &mut self,
+        backend: &Backend<R>,
+        position: usize,
+    ) -> Result<(), SaveFault>
+        requires { IsPassOfBackend (saver_pass self.old) backend.now }
+        ensures pass { IsPassOfBackend (saver_pass self.new) backend.now }
+        ensures added { AddsLines backend.now self.old self.new }
+    {
+        let line = self.line_at(backend, position)?;
+        push_line(&mut self.group, line)?;
+        self.position = position.saturating_add(1);
+        Ok(())
+    }
+
+    // Returns the line of a taken entry.
+    fn line_at<R: Wait + Drop>(
+        &mut self,
+        backend: &Backend<R>,
+        position: usize,
+    ) -> Result<Vec<u8>, SaveFault>
+        requires { IsPassOfBackend (saver_pass self.old) backend.now }
+        ensures pass { IsPassOfBackend (saver_pass self.new) backend.now }
+        ensures others_unchanged { self.new ≡ record self.old { pass = saver_pass self.new } }
+        ensures line { IfOk result (λ line. IsJournalLine backend.now line.items) }
+    {
+        let Some(place) = self.taken.get(position) else {
+            return Err(SaveFault::Incomplete);
+        };
+        read_line(self.alloc, backend, &mut self.pass, place)
+    }
+
+    // Writes the group. After a failure it is kept.
+    fn write_group<W: LineWriter>(&mut self, writer: &mut W) -> Result<(), SaveFault>
+        ensures pass { saver_pass self.new ≡ saver_pass self.old }
+        ensures committed { W.trusts writer.new → OnOk result ((lines : List (List ℕ)) → W.has_lines lines writer.old
+            → W.has_lines (lines ++ unwritten_lines self.old) writer.new) }
+        ensures none_left { OnOk result (unwritten_lines self.new ≡ []) }
+        ensures block { OnOk result (HasBlockLine self.old → HasBlockLine self.new
+            × ((reserved_number self.new ≡ reserved_number self.old)
+            ⊎ IsIn (number_line (reserved_number self.new)) (unwritten_lines self.old))) }
+        ensures unchanged_on_err { OnErr result (self.new ≡ self.old) }
+    {
+        if self.group.is_empty() {
+            return Ok(());
+        }
+        let group = std::mem::replace(&mut self.group, Vec::new(self.alloc));
+        match writer.write(group) {
+            Ok(()) => {
+                self.reserved = self.group_reserved;
+                Ok(())
+            }
+            Err((fault, group)) => {
+                self.group = group;
+                Err(SaveFault::from(fault))
+            }
+        }
+    }
+}
+
+// Reads an entry, and returns its line.
+fn read_line<R: Wait + Drop>(
+    alloc: Global,
+    backend: &Backend<R>,
+    pass: &mut Pass,
+    place: &EntryAt,
+) -> Result<Vec<u8>, SaveFault>
+    requires { IsPassOfBackend pass.old backend.now }
+    ensures pass { IsPassOfBackend pass.new backend.now }
+    ensures line { IfOk result (λ line. IsJournalLine backend.now line.items) }
+{
+    let EntryAt { key, version } = place;
+    let entries = backend.ops_between(pass, key, *version, version.saturating_add(1))?;
+    match entries.first() {
+        Some(entry) => Ok(entry_line(alloc, key, entry)?),
+        None => Err(SaveFault::Incomplete),
+    }
+}
+
+// Adds the line to the group.
+fn push_line(group: &mut Vec<Vec<u8>>, line: Vec<u8>) -> Result<(), AllocError>
+    ensures added { OnOk result (lines_of group.new.items ≡ lines_of group.old.items ++ line.items ∷ []) }
+    ensures unchanged_on_err { OnErr result (group.new.items ≡ group.old.items) }
+{
+    group.push(line)?;
+    Ok(())
+}

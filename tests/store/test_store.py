@@ -1,0 +1,303 @@
+"""The server with --store: its program is killed, its file is damaged, and the disk is full."""
+import os
+import pathlib
+import random
+import resource
+import shutil
+import signal
+import subprocess
+import tempfile
+import threading
+import time
+
+import pytest
+
+from support.frames import Connection, Fault, text
+from support.server import END, Server
+
+TYPE = "http://sharejs.org/types/JSONv0"
+NOBODY = 65534  # a user without files
+PLACES = [8, pytest.param(100, marks=pytest.mark.slow)]  # at which a file is cut or changed
+
+
+class Editor(threading.Thread):
+    """Inserts at the front of a text, and notes what is acknowledged, until its connection ends."""
+
+    def __init__(self, address, document, source):
+        super().__init__()
+        self.address, self.document, self.source = address, document, source
+        self.stored, self.sent, self.version = {}, 0, 0
+
+    def run(self):
+        try:
+            with Connection(self.address) as connection:
+                connection.enter()
+                connection.ask({"a": "hs", "id": self.source, "protocol": 1, "protocolMinor": 1})
+                self.edit(connection)
+        except (EOFError, OSError, Fault):
+            pass
+
+    def edit(self, connection):
+        self.version = connection.ask(self.message(fetch=True))["data"]["v"]
+        while True:
+            self.sent += 1
+            answer = connection.ask(self.message())
+            if "error" in answer:
+                raise Fault(answer)
+            while answer.get("src") != self.source or answer.get("seq") != self.sent:
+                answer = connection.message()
+            self.stored[self.sent] = answer["v"]
+            self.version = answer["v"] + 1
+
+    def message(self, fetch=False):
+        key = {"c": "b", "d": self.document}
+        if fetch:
+            return {"a": "f", **key}
+        if self.version == 0:
+            change = {"create": {"type": TYPE, "data": {"t": ""}}}
+        else:
+            change = {"op": [{"p": ["t", 0], "si": "x"}]}
+        return {"a": "op", **key, "v": self.version, "seq": self.sent, "src": self.source, **change}
+
+
+def log_of(address, document):
+    """Returns the source and the number of each operation of a document, by version."""
+    log = []
+    with Connection(address).enter() as connection:
+        current = connection.ask({"a": "f", "c": "b", "d": document})["data"]["v"]
+        connection.send(text({"a": "s", "c": "b", "d": document, "v": 0}))
+        while len(log) < current:
+            answer = connection.message()
+            if answer["a"] == "op":
+                assert answer["v"] == len(log)
+                log.append((answer["src"], answer["seq"]))
+    return log
+
+
+def kill_and_compare(program, file, editors, chance, rounds):
+    stored = 0
+    for number in range(rounds):
+        with Server(program, "--clients", "200", "--store", str(file)) as server:
+            threads = [Editor(server.address, f"d{k % max(1, editors // 2)}", f"c{number}-{k}") for k in range(editors)]
+            for thread in threads:
+                thread.start()
+            time.sleep(chance.uniform(0.2, 1.2))
+            server.process.send_signal(signal.SIGKILL)
+            server.process.wait()
+            for thread in threads:
+                thread.join()
+        compare(program, file, threads)
+        stored += sum(len(thread.stored) for thread in threads)
+    print(f"{stored} acknowledged operations")
+    assert stored > rounds
+
+
+def compare(program, file, threads):
+    with Server(program, "--store", str(file)) as server:
+        logs = {}
+        for thread in threads:
+            if thread.document not in logs:
+                logs[thread.document] = log_of(server.address, thread.document)
+            for seq, version in thread.stored.items():
+                assert logs[thread.document][version] == (thread.source, seq)
+            again = [entry for entry in logs[thread.document] if entry[0] == thread.source]
+            assert len(again) == len(set(again)) and len(again) <= thread.sent
+
+
+def test_what_was_acknowledged_is_there_after_a_kill(program, tmp_path, seed):
+    kill_and_compare(program, tmp_path / "store", 8, random.Random(seed), 4)
+
+
+@pytest.mark.slow
+def test_two_hundred_kills(program, tmp_path, seed):
+    kill_and_compare(program, tmp_path / "store", 64, random.Random(seed), 200)
+    if shutil.which("sqlite3"):
+        checked = subprocess.run(["sqlite3", tmp_path / "store", "pragma integrity_check"], capture_output=True, text=True)
+        assert checked.stdout == "ok\n"
+
+
+def test_a_resend_after_a_restart_has_its_first_version(program, tmp_path):
+    file = str(tmp_path / "store")
+    create = {"a": "op", "c": "b", "d": "1", "v": 0, "seq": 7, "src": "x", "create": {"type": TYPE, "data": {"n": 0}}}
+    add = {"a": "op", "c": "b", "d": "1", "v": 1, "seq": 8, "src": "x", "op": [{"p": ["n"], "na": 1}]}
+    for _ in range(3):
+        with Server(program, "--store", file) as server, server.enter() as connection:
+            assert connection.ask(create)["v"] == 0
+            assert connection.ask(add)["v"] == 1
+            assert connection.ask({"a": "f", "c": "b", "d": "1"})["data"] == {"v": 2, "data": {"n": 1}}
+
+
+def test_numbers_continue_after_a_restart(program, tmp_path):
+    file = str(tmp_path / "store")
+    sources = []
+    for _ in range(3):
+        with Server(program, "--store", file) as server:
+            for _ in range(40):
+                with server.connect() as connection:
+                    connection.upgrade()
+                    sources.append(int(connection.message()["id"][1:]))
+    assert sources == sorted(set(sources))
+
+
+def test_a_graceful_end_saves_all(program, tmp_path):
+    file = str(tmp_path / "store")
+    with Server(program, "--until-eof", "--store", file) as server:
+        with server.enter() as connection:
+            connection.ask({"a": "op", "c": "b", "d": "1", "v": 0, "seq": 1, "create": {"type": TYPE, "data": [1]}})
+            server.process.stdin.close()
+            assert connection.status() == 1001
+        assert server.process.wait(timeout=END) == 0
+        assert server.process.stderr.read() == "ended: 1 documents, 1 operations\n"
+    with Server(program, "--store", file) as server, server.enter() as connection:
+        assert connection.ask({"a": "f", "c": "b", "d": "1"})["data"] == {"v": 1, "data": [1]}
+
+
+# Files that aren't served ---------------------------------------------------------------------------------
+
+
+def refusal(program, file):
+    """Returns what a program that doesn't serve this file writes."""
+    command = [program, "--listen", "127.0.0.1:0", "--store", str(file)]
+    ended = subprocess.run(command, capture_output=True, text=True, timeout=END, check=False)
+    assert ended.returncode == 1 and ended.stdout == ""
+    return ended.stderr
+
+
+def test_two_servers(program, tmp_path):
+    with Server(program, "--store", str(tmp_path / "store")):
+        assert refusal(program, tmp_path / "store") == "store: another process has the file open\n"
+
+
+def test_other_files(program, tmp_path):
+    (tmp_path / "text").write_text("no database")
+    assert refusal(program, tmp_path / "text") == "store: the file is damaged or no database\n"
+    assert (tmp_path / "text").read_text() == "no database"
+    assert refusal(program, tmp_path / "missing" / "store").startswith("store: ")
+    assert refusal(program, tmp_path).startswith("store: ")
+
+
+def test_an_unwritable_file(program):
+    with tempfile.TemporaryDirectory() as folder:
+        file = pathlib.Path(folder) / "store"
+        with Server(program, "--store", str(file)):
+            pass
+        os.chmod(folder, 0o555)
+        for found in file.parent.iterdir():
+            found.chmod(0o444)
+        before = file.read_bytes()
+        command = [program, "--listen", "127.0.0.1:0", "--store", str(file)]
+        # (root may write each file)
+        other = {"user": NOBODY} if os.geteuid() == 0 else {}
+        try:
+            ended = subprocess.run(command, capture_output=True, text=True, timeout=END, check=False, **other)
+        except PermissionError:
+            pytest.skip("another user can't start the program")
+        assert (ended.returncode, ended.stdout) == (1, "") and ended.stderr.startswith("store: ")
+        assert ended.stderr.count("\n") == 1 and file.read_bytes() == before
+
+
+@pytest.fixture(scope="module")
+def filled(program, tmp_path_factory):
+    """Returns a file with 300 operations, and its log."""
+    file = tmp_path_factory.mktemp("filled") / "store"
+    with Server(program, "--until-eof", "--store", str(file)) as server:
+        with server.enter() as connection:
+            editor = Editor(server.address, "1", "x")
+            for _ in range(300):
+                editor.sent += 1
+                editor.version = connection.ask(editor.message())["v"] + 1
+            log = log_of(server.address, "1")
+        server.stop()
+    return file, log
+
+
+def served_log(program, file):
+    """Returns the log that the server serves, or None. Then it must write one line, and leave the file unchanged."""
+    before = file.read_bytes()
+    command = [program, "--listen", "127.0.0.1:0", "--store", str(file)]
+    process = subprocess.Popen(command, stdout=subprocess.PIPE, stderr=subprocess.PIPE, text=True)
+    try:
+        line = process.stdout.readline()
+        if not line:
+            written = process.communicate(timeout=END)[1]
+            assert process.returncode == 1 and written.startswith("store: ") and written.count("\n") == 1
+            assert file.read_bytes() == before
+            return None
+        host, port = line.split()[-1].rsplit(":", 1)
+        return log_of((host, int(port)), "1")
+    finally:
+        process.kill()
+        process.communicate()
+
+
+@pytest.mark.parametrize("places", PLACES)
+def test_cut_files(program, filled, tmp_path, places):
+    file, _ = filled
+    data = file.read_bytes()
+    for k in range(places):
+        cut = tmp_path / f"cut{k}"
+        cut.write_bytes(data[: len(data) * k // places])
+        # (an empty file becomes a store)
+        assert served_log(program, cut) == ([] if k == 0 else None)
+        remove(cut)
+
+
+@pytest.mark.parametrize("places", PLACES)
+def test_changed_bytes(program, filled, tmp_path, seed, places):
+    file, log = filled
+    data = file.read_bytes()
+    chance = random.Random(seed)
+    for k in range(places):
+        at = chance.randrange(len(data))
+        changed = tmp_path / f"changed{k}"
+        changed.write_bytes(data[:at] + bytes([data[at] ^ chance.randrange(1, 256)]) + data[at + 1 :])
+        # (some bytes have no meaning)
+        assert served_log(program, changed) in (None, log)
+        remove(changed)
+
+
+def remove(file):
+    for found in file.parent.glob(file.name + "*"):
+        found.unlink()
+
+
+# A full disk ----------------------------------------------------------------------------------------------
+
+
+def test_answers_wait_while_the_disk_is_full(program, tmp_path):
+    # (a file that is too long sends a signal to the program, which Python ignores for itself)
+    server = Server(program, "--store", str(tmp_path / "store"), restore_signals=False)
+    with server, server.enter() as connection:
+        editor = Editor(server.address, "1", "x")
+        editor.sent = 1
+        editor.version = connection.ask(editor.message())["v"] + 1
+        limit_files(server.process.pid, 0)
+        editor.sent = 2
+        message = editor.message()
+        with Silence(connection, message):
+            time.sleep(2)
+        limit_files(server.process.pid, resource.RLIM_INFINITY)
+        assert connection.message()["v"] == 1
+
+
+def limit_files(process, size):
+    """Limits the size of the files that a process writes."""
+    resource.prlimit(process, resource.RLIMIT_FSIZE, (size, resource.RLIM_INFINITY))
+
+
+class Silence:
+    """Sends a message, and checks that no byte of an answer comes meanwhile."""
+
+    def __init__(self, connection, message):
+        self.connection, self.message = connection, message
+
+    def __enter__(self):
+        self.connection.send(text(self.message))
+
+    def __exit__(self, *_):
+        self.connection.socket.setblocking(False)
+        try:
+            with pytest.raises(BlockingIOError):
+                self.connection.read_more()
+        finally:
+            self.connection.socket.setblocking(True)
