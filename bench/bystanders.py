@@ -6,6 +6,9 @@ finds a longer log. At the same time a bystander sends edits to sixteen other do
 document's lock: 10,000 (or EDITS), and more until two of the late operations are acknowledged, but at most for five minutes.
 It prints the middle and the slowest acknowledgement of the bystander, first without the other two.
 
+A third document has as many operations, which nobody adds to. An honest client sends it operations of one component with base
+version 1, twenty times; the same is printed of their acknowledgements.
+
 SERVER is the program of the server. It is started at a port of its own and stopped at the end."""
 import json
 import multiprocessing
@@ -23,6 +26,7 @@ TYPE = "http://sharejs.org/types/JSONv0"
 COMPONENTS = 256
 LONG = 1_000
 ENOUGH = 2  # late operations that are acknowledged
+HONEST = 20  # late operations of one component
 LONGEST = 300  # seconds for two late operations
 DOCUMENTS = 16
 
@@ -88,8 +92,16 @@ def bystand(client, edits, is_enough):
         start = time.perf_counter()
         client.submit(f"b{len(took) % DOCUMENTS}", op=[{"p": ["n"], "na": 1}])
         took.append(time.perf_counter() - start)
-    took.sort()
-    return len(took), took[len(took) // 2], took[-1]
+    return took
+
+
+def edit_late(client):
+    took = []
+    for _ in range(HONEST):
+        start = time.perf_counter()
+        client.submit("c", v=1, op=[{"p": ["n"], "na": 1}])
+        took.append(time.perf_counter() - start)
+    return took
 
 
 def repeat(port, source, edit, count):
@@ -103,9 +115,9 @@ def repeat(port, source, edit, count):
         pass
 
 
-def report(name, client, edits, is_enough):
-    count, middle, slowest = bystand(client, edits, is_enough)
-    print(f"{name}: {count} edits, middle {middle * 1e6:.0f} us, slowest {slowest * 1e3:.1f} ms", flush=True)
+def report(name, took):
+    middle, slowest = sorted(took)[len(took) // 2], max(took)
+    print(f"{name}: {len(took)} edits, middle {middle * 1e6:.0f} us, slowest {slowest * 1e3:.1f} ms", flush=True)
 
 
 def main(program, edits=10_000, late_clients=1):
@@ -114,10 +126,13 @@ def main(program, edits=10_000, late_clients=1):
         bystander, author = Client(port, "bystander"), Client(port, "author")
         for number in range(DOCUMENTS):
             bystander.submit(f"b{number}", create={"type": TYPE, "data": {"n": 0}})
-        author.submit("a", create={"type": TYPE, "data": {"t": "", "n": 0}})
-        for _ in range(LONG):
-            author.submit("a", op=long_edit())
-        report("alone", bystander, edits, lambda: True)
+        for document in ("a", "c"):
+            author.submit(document, create={"type": TYPE, "data": {"t": "", "n": 0}})
+            for _ in range(LONG):
+                author.submit(document, op=long_edit())
+        honest = Client(port, "honest")
+        report("alone", bystand(bystander, edits, lambda: True))
+        report("late edits of one component, alone", edit_late(honest))
         late, stored = multiprocessing.Value("q"), multiprocessing.Value("q")
         one = {"op": [{"p": ["n"], "na": 1}]}
         late_edit = {"v": 1, "op": long_edit()}
@@ -128,7 +143,8 @@ def main(program, edits=10_000, late_clients=1):
         try:
             time.sleep(1)
             end = time.monotonic() + LONGEST
-            report("concurrent", bystander, edits, lambda: late.value >= ENOUGH or time.monotonic() > end)
+            report("concurrent", bystand(bystander, edits, lambda: late.value >= ENOUGH or time.monotonic() > end))
+            report("late edits of one component, concurrent", edit_late(honest))
             print(f"meanwhile {late.value} late operations and {stored.value} others were acknowledged")
         finally:
             for other in others:

@@ -26,7 +26,7 @@ class Editor(threading.Thread):
     def __init__(self, address, document, source):
         super().__init__()
         self.address, self.document, self.source = address, document, source
-        self.stored, self.sent, self.version = {}, 0, 0
+        self.stored, self.sent, self.version, self.first = {}, 0, 0, 0
 
     def run(self):
         try:
@@ -38,7 +38,7 @@ class Editor(threading.Thread):
             pass
 
     def edit(self, connection):
-        self.version = connection.ask(self.message(fetch=True))["data"]["v"]
+        self.version = self.first = connection.ask(self.message(fetch=True))["data"]["v"]
         while True:
             self.sent += 1
             answer = connection.ask(self.message())
@@ -60,48 +60,50 @@ class Editor(threading.Thread):
         return {"a": "op", **key, "v": self.version, "seq": self.sent, "src": self.source, **change}
 
 
-def log_of(address, document):
-    """Returns the source and the number of each operation of a document, by version."""
-    log = []
+def log_of(address, document, start=0):
+    """Returns the source and the number of each operation of a document, by version, from a version on."""
+    log = {}
     with Connection(address).enter() as connection:
         current = connection.ask({"a": "f", "c": "b", "d": document})["data"]["v"]
-        connection.send(text({"a": "s", "c": "b", "d": document, "v": 0}))
-        while len(log) < current:
+        connection.send(text({"a": "s", "c": "b", "d": document, "v": start}))
+        while start + len(log) < current:
             answer = connection.message()
             if answer["a"] == "op":
-                assert answer["v"] == len(log)
-                log.append((answer["src"], answer["seq"]))
+                assert answer["v"] == start + len(log)
+                log[answer["v"]] = answer["src"], answer["seq"]
     return log
 
 
 def kill_and_compare(program, file, editors, chance, rounds):
-    stored = 0
+    """Kills a server under load, and compares after each restart what was acknowledged before it."""
+    threads, stored, options = [], 0, ("--clients", "200", "--store", str(file))
     for number in range(rounds):
-        with Server(program, "--clients", "200", "--store", str(file)) as server:
+        with Server(program, *options) as server:
+            compare(server.address, threads)
             threads = [Editor(server.address, f"d{k % max(1, editors // 2)}", f"c{number}-{k}") for k in range(editors)]
             for thread in threads:
                 thread.start()
-            time.sleep(chance.uniform(0.2, 1.2))
+            time.sleep(chance.uniform(0.1, 0.6))
             server.process.send_signal(signal.SIGKILL)
             server.process.wait()
             for thread in threads:
                 thread.join()
-        compare(program, file, threads)
         stored += sum(len(thread.stored) for thread in threads)
+    with Server(program, *options) as server:
+        compare(server.address, threads)
     print(f"{stored} acknowledged operations")
     assert stored > rounds
 
 
-def compare(program, file, threads):
-    with Server(program, "--store", str(file)) as server:
-        logs = {}
-        for thread in threads:
-            if thread.document not in logs:
-                logs[thread.document] = log_of(server.address, thread.document)
-            for seq, version in thread.stored.items():
-                assert logs[thread.document][version] == (thread.source, seq)
-            again = [entry for entry in logs[thread.document] if entry[0] == thread.source]
-            assert len(again) == len(set(again)) and len(again) <= thread.sent
+def compare(address, threads):
+    """Compares the logs with what was acknowledged to the editors, each of which has a source of its own."""
+    for document in {thread.document for thread in threads}:
+        editors = [thread for thread in threads if thread.document == document]
+        log = log_of(address, document, min(thread.first for thread in editors))
+        for thread in editors:
+            assert all(log[version] == (thread.source, seq) for seq, version in thread.stored.items())
+            own = [entry for entry in log.values() if entry[0] == thread.source]
+            assert len(own) == len(set(own)) and len(own) <= thread.sent
 
 
 def test_what_was_acknowledged_is_there_after_a_kill(program, tmp_path, seed):
@@ -238,7 +240,7 @@ def test_cut_files(program, filled, tmp_path, places):
         cut = tmp_path / f"cut{k}"
         cut.write_bytes(data[: len(data) * k // places])
         # (an empty file becomes a store)
-        assert served_log(program, cut) == ([] if k == 0 else None)
+        assert served_log(program, cut) == ({} if k == 0 else None)
         remove(cut)
 
 
