@@ -16,8 +16,9 @@ from support.server import ROOT
 HERE = pathlib.Path(__file__).resolve().parent
 DEPLOY = ROOT / "examples" / "deploy"
 NGINX = shutil.which("nginx") or shutil.which("nginx", path="/usr/sbin")
+SSHD = shutil.which("sshd") or shutil.which("sshd", path="/usr/sbin")
 FIRST_PORT = 20000
-PATIENCE = 30  # seconds until nginx must listen, or a process must end
+PATIENCE = 30  # seconds until nginx or sshd must listen, or a process must end
 
 # What differs here in the file of examples/deploy: addresses and paths, no TLS, no passwords, clients that are no pages, and all
 # of them at one address.
@@ -51,7 +52,7 @@ SETTINGS = """[cluster]
 buckets = {buckets}
 map = {folder}/map
 port = {first}
-file = {folder}/{{machine}}/{{bucket}}/documents.db
+file = {folder}/{{machine}}/{{bucket}}/{store}
 
 [commands]
 at = {at}
@@ -113,6 +114,11 @@ class Loopback:
         pass
 
 
+def may_have_namespaces():
+    """Returns whether this process may have namespaces of networks and of mounts."""
+    return shutil.which("ip") and subprocess.run(["unshare", "--net", "--mount", "true"], stderr=subprocess.DEVNULL).returncode == 0
+
+
 def any_machines():
     """Returns namespaces if this process may have some."""
     try:
@@ -120,6 +126,71 @@ def any_machines():
     except (OSError, subprocess.CalledProcessError) as error:
         print(f"no network namespaces: {getattr(error, 'stderr', None) or error}")
         return Loopback()
+
+
+# sshd takes no other folder than /run/sshd, so it gets a /run of its own.
+SSHD_START = "mount -t tmpfs tmpfs /run && mkdir /run/sshd && exec {sshd} -D -e -f {folder}/{machine}.sshd"
+SSHD_CONFIG = """ListenAddress {machine}
+HostKey {folder}/{machine}.key
+AuthorizedKeysFile {folder}/user.key.pub
+AuthenticationMethods publickey
+StrictModes no
+PidFile none
+"""
+SSH_CONFIG = """IdentityFile {folder}/user.key
+IdentitiesOnly yes
+UserKnownHostsFile {folder}/known_hosts
+GlobalKnownHostsFile none
+BatchMode yes
+"""
+
+
+class Ssh:
+    """A server of ssh in each network namespace. All keys and settings are in a folder."""
+
+    def __init__(self, folder, hosts):
+        self.folder, self.hosts, self.servers = folder, hosts, []
+        at = re.search(r"^at = ssh (.+)$", (DEPLOY / "cluster" / "cluster.ini").read_text(), re.M)[1]
+        self.at = f"ssh -F {folder}/ssh_config {at}"
+        folder.mkdir()
+        self.make_key("user")
+        (folder / "ssh_config").write_text(SSH_CONFIG.format(folder=folder))
+        keys = ((it, self.make_key(it)) for it in hosts.machines)
+        (folder / "known_hosts").write_text("".join(f"{machine} {key}" for machine, key in keys))
+        try:
+            for machine in hosts.machines:
+                self.start(machine)
+        except BaseException:
+            self.remove()
+            raise
+
+    def make_key(self, name):
+        """Returns the public key."""
+        file = self.folder / f"{name}.key"
+        subprocess.run(["ssh-keygen", "-q", "-t", "ed25519", "-N", "", "-f", file], check=True)
+        return file.with_name(file.name + ".pub").read_text()
+
+    def start(self, machine):
+        names = {"folder": self.folder, "machine": machine, "sshd": SSHD}
+        (self.folder / f"{machine}.sshd").write_text(SSHD_CONFIG.format(**names))
+        command = ["ip", "netns", "exec", f"{self.hosts.front}-{machine}", "sh", "-c", SSHD_START.format(**names)]
+        with open(self.folder / f"{machine}.log", "w") as log:
+            self.servers.append(subprocess.Popen(command, stdin=subprocess.DEVNULL, stderr=log))
+        wait_for_port((machine, 22))
+
+    def remove(self):
+        for server in self.servers:
+            server.terminate()
+            server.wait(PATIENCE)
+
+
+def wait_for_port(address):
+    end = time.monotonic() + PATIENCE
+    while time.monotonic() < end:
+        with contextlib.suppress(OSError), socket.create_connection(address, 1):
+            return
+        time.sleep(0.05)
+    raise AssertionError(f"nothing listens at {address}")
 
 
 def free_ports(count):
@@ -131,13 +202,15 @@ def free_ports(count):
 class Machines:
     """Servers of buckets at three machines, nginx as their proxy, and the script `buckets`."""
 
-    def __init__(self, folder, program, buckets):
-        self.folder, self.program, self.count = folder, program, buckets
+    def __init__(self, folder, program, buckets, store="documents.db", has_ssh=False):
+        self.folder, self.program, self.count, self.store = folder, program, buckets, store
         self.hosts = any_machines()
-        self.machines, self.nginx = self.hosts.machines, None
+        self.machines, self.nginx, self.ssh = self.hosts.machines, None, None
         self.port, self.monitor = free_ports(2)
         self.url = f"ws://127.0.0.1:{self.port}"
         try:
+            if has_ssh:
+                self.ssh = Ssh(folder / "ssh", self.hosts)
             self.write_files()
         except BaseException:
             self.release()
@@ -155,9 +228,10 @@ class Machines:
         user = "user root;\n" if os.geteuid() == 0 else ""
         (self.folder / "nginx.conf").write_text(MAIN.format(paths=paths, user=user, **names))
         self.command = [NGINX, "-p", str(self.folder), "-c", f"{self.folder}/nginx.conf", "-e", f"{self.folder}/error.log"]
-        commands = {"at": self.hosts.at, "unit": HERE / "unit", "stoppable": DEPLOY / "stoppable"}
-        settings = {"buckets": self.count, "program": self.program, "first": FIRST_PORT, "nginx": " ".join(self.command)}
-        (self.folder / "cluster.ini").write_text(SETTINGS.format(folder=self.folder, **commands, **settings))
+        commands = {"at": (self.ssh or self.hosts).at, "unit": HERE / "unit", "stoppable": DEPLOY / "stoppable"}
+        commands.update(program=self.program, nginx=" ".join(self.command))
+        settings = {"folder": self.folder, "store": self.store, "buckets": self.count, "first": FIRST_PORT}
+        (self.folder / "cluster.ini").write_text(SETTINGS.format(**commands, **settings))
 
     def __enter__(self):
         return self
@@ -167,12 +241,7 @@ class Machines:
 
     def start_nginx(self):
         self.nginx = subprocess.Popen(self.command)
-        end = time.monotonic() + PATIENCE
-        while time.monotonic() < end:
-            with contextlib.suppress(OSError), socket.create_connection(("127.0.0.1", self.port)):
-                return
-            time.sleep(0.05)
-        raise AssertionError("nginx doesn't listen")
+        wait_for_port(("127.0.0.1", self.port))
 
     def buckets(self, *words, succeeds=True):
         """Runs the script of examples/deploy. Returns what it printed, or its error if it must fail."""
@@ -188,7 +257,7 @@ class Machines:
         return machine, FIRST_PORT + bucket
 
     def file(self, bucket, machine=None):
-        return self.folder / (machine or self.place(bucket)[0]) / f"{bucket:03}" / "documents.db"
+        return self.folder / (machine or self.place(bucket)[0]) / f"{bucket:03}" / self.store
 
     def processes(self, bucket=None):
         """Returns the numbers of the processes of the program, of one bucket or of all."""
@@ -207,7 +276,7 @@ class Machines:
 
     def release(self):
         """Ends all processes, and removes the namespaces."""
-        for path in self.folder.glob("*/*/documents.db.pid"):
+        for path in self.folder.glob("*/*/*.pid"):
             with contextlib.suppress(ProcessLookupError):
                 os.kill(int(path.read_text()), signal.SIGKILL)  # (so that it starts no server again)
         for number in self.processes():
@@ -216,4 +285,6 @@ class Machines:
         if self.nginx:
             self.nginx.terminate()
             self.nginx.wait(PATIENCE)
+        if self.ssh:
+            self.ssh.remove()
         self.hosts.remove()

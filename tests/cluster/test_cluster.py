@@ -10,7 +10,7 @@ import zlib
 
 import pytest
 
-from machines import HERE, NGINX, Machines
+from machines import HERE, NGINX, SSHD, Machines, may_have_namespaces
 from support.frames import Connection, text
 from support.server import UNPROVED
 
@@ -30,13 +30,13 @@ def bucket_of(document):
 
 
 @contextlib.contextmanager
-def running_machines(program, folder, *parts):
-    """Starts nginx, and servers of as many buckets at each of three machines."""
-    with Machines(folder, program, sum(parts)) as running:
+def running_machines(program, folder, *parts, **options):
+    """Starts nginx, and servers of as many buckets at each of the first machines."""
+    with Machines(folder, program, sum(parts), **options) as running:
         running.start_nginx()
-        for number, machine in enumerate(running.machines):
+        for number, (machine, part) in enumerate(zip(running.machines, parts)):
             start = sum(parts[:number])
-            running.buckets("add", f"{start}-{start + parts[number] - 1}", machine)
+            running.buckets("add", f"{start}-{start + part - 1}", machine)
         yield running
 
 
@@ -122,6 +122,29 @@ def test_moves(few):
         store(few.place(1), "d7", 10)
     assert few.buckets("list").count("documents") == 3
     assert few.file(1, second).with_name("documents.db.moved").exists()
+
+
+@pytest.mark.skipif(SSHD is None, reason="sshd isn't installed")
+def test_ssh(program, tmp_path):
+    """Runs the commands by ssh, with the name of a file that a shell would divide and expand."""
+    if not may_have_namespaces():
+        pytest.skip("there are no network namespaces")
+    with running_machines(program, tmp_path, 1, store='it\'s $HOME; a "store" *.db', has_ssh=True) as machines:
+        first, second, third = machines.machines
+        store(machines.place(0), "d7", 20)
+        older = machines.file(0, third)
+        older.parent.mkdir(parents=True)
+        older.write_text("an older file")
+        assert "test ! -e" in machines.buckets("move", 0, third, succeeds=False)
+        settings = machines.folder / "cluster.ini"
+        settings.write_text(settings.read_text().replace("{command}", "env sh -c {quoted}"))
+        moved = machines.buckets("move", 0, second)
+        assert "1 documents, 20 entries" in moved
+        print(moved, end="")
+        assert health(machines, 0)["entries"] == 20
+        assert second in machines.buckets("list")
+        names = {it.name for it in machines.file(0, first).parent.iterdir()}
+        assert f"{machines.store}.moved" in names and machines.store not in names
 
 
 # Clients ----------------------------------------------------------------------------------------------------------
