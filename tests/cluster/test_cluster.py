@@ -1,17 +1,21 @@
 """A cluster: clients edit documents of 16 buckets at three machines, while a bucket is moved and a server is killed.
 
 Needs nginx, node-ws and python3-websockets; for network namespaces also root and iproute2."""
+import base64
 import contextlib
 import http.client
 import json
+import os
+import socket
+import ssl
 import subprocess
 import time
 import zlib
 
 import pytest
 
-from machines import HERE, NGINX, SSHD, Machines, may_have_namespaces
-from support.frames import Connection, text
+from machines import HERE, NGINX, PASSWORD, SSHD, USER, Machines, may_have_namespaces
+from support.frames import HEAD, Connection, text
 from support.server import UNPROVED
 
 BUCKETS, DOCUMENTS = 16, 1000
@@ -25,8 +29,8 @@ RETURN = 180  # seconds until clients edit again
 pytestmark = pytest.mark.skipif(NGINX is None, reason="nginx isn't installed")
 
 
-def bucket_of(document):
-    return zlib.crc32(document.encode()) % BUCKETS
+def bucket_of(document, buckets=BUCKETS):
+    return zlib.crc32(document.encode()) % buckets
 
 
 @contextlib.contextmanager
@@ -151,10 +155,10 @@ def test_ssh(program, tmp_path):
 
 
 @contextlib.contextmanager
-def editors(url, seed, pause):
+def editors(machines, clients, documents, seed, pause):
     """Starts the clients. Ends them at the end of the block."""
-    shared = [url, BUCKETS, CLIENTS, DOCUMENTS]
-    pipes = {"stdin": subprocess.PIPE, "stdout": subprocess.PIPE, "text": True}
+    shared = [machines.url, machines.count, clients, documents]
+    pipes = {"stdin": subprocess.PIPE, "stdout": subprocess.PIPE, "text": True, "env": {**os.environ, **machines.trust}}
     started = []
     try:
         for words, stride in EDITORS.values():
@@ -216,11 +220,11 @@ def log_of(connection, document):
     return log, current["data"]
 
 
-def stored(machines):
+def stored(machines, count):
     """Returns the log and the content of each document, which must be at the server of its bucket."""
     found = {}
-    for bucket in range(BUCKETS):
-        documents = [it for it in map("d{}".format, range(DOCUMENTS)) if bucket_of(it) == bucket]
+    for bucket in range(machines.count):
+        documents = [it for it in map("d{}".format, range(count)) if bucket_of(it, machines.count) == bucket]
         assert health(machines, bucket)["documents"] == len(documents)
         with Connection(machines.place(bucket)).enter() as connection:
             found.update((it, log_of(connection, it)) for it in documents)
@@ -251,24 +255,74 @@ def print_pauses(reports):
     print(f"longest pause of an edit in the moved bucket: {max(waits):.2f} s, of {len(waits):,} edits")
 
 
+def edit(machines, documents, programs, disturb):
+    """Lets the clients edit meanwhile. Returns their reports, and the logs and documents of the servers."""
+    for process in programs:
+        assert read_line(process) == "ready\n"
+    disturb()
+    for process in programs:
+        write_line(process, "end")
+    for process in programs:
+        assert read_line(process) == "settled\n"
+    found = stored(machines, documents)
+    for process in programs:
+        write_line(process, json.dumps({document: len(log) for document, (log, _) in found.items()}))
+    reports = [json.loads(read_line(process)) for process in programs]
+    for report in reports:
+        compare(report, found)
+    return reports, found
+
+
 def test_edits_while_a_bucket_is_moved_and_a_server_is_killed(machines, seed, request):
     seconds = float(request.config.getoption("--seconds"))
     pause = UNPROVED_PAUSE if machines.program == str(UNPROVED) else PAUSE
-    with editors(machines.url, seed, pause) as programs:
-        for process in programs:
-            assert read_line(process) == "ready\n"
-        disturb(machines, seconds)
-        for process in programs:
-            write_line(process, "end")
-        for process in programs:
-            assert read_line(process) == "settled\n"
-        found = stored(machines)
-        for process in programs:
-            write_line(process, json.dumps({document: len(log) for document, (log, _) in found.items()}))
-        reports = [json.loads(read_line(process)) for process in programs]
-    for report in reports:
-        compare(report, found)
+    with editors(machines, CLIENTS, DOCUMENTS, seed, pause) as programs:
+        reports, found = edit(machines, DOCUMENTS, programs, lambda: disturb(machines, seconds))
     count = len({tuple(it[:4]) for report in reports for it in report["acknowledged"]})
     print(f"{machines.hosts.what}: {count:,} acknowledged operations, {sum(len(log) for log, _ in found.values()):,} stored")
     print_pauses(reports)
     assert count > DOCUMENTS + seconds * len(EDITORS) * CLIENTS / pause / 2
+
+
+# TLS and passwords ------------------------------------------------------------------------------------------------
+
+
+def status_by_tls(machines, request):
+    """Returns the status that nginx answers to a request."""
+    trusting = ssl.create_default_context(cafile=machines.trust["SSL_CERT_FILE"])
+    with socket.create_connection(("127.0.0.1", machines.port), PATIENCE) as plain:
+        with trusting.wrap_socket(plain, server_hostname="127.0.0.1") as connection:
+            connection.sendall(request.encode())
+            return int(connection.recv(1024).split()[1])
+
+
+def handshake(path, origin="https://documents.example.org", password=PASSWORD):
+    """Returns a request for a WebSocket, without a password if none is given."""
+    lines = [f"GET {path} {HEAD.split(' ', 2)[2]}Sec-WebSocket-Key: dGhlIHNhbXBsZSBub25jZQ=="]
+    lines += [f"Origin: {origin}"] if origin else []
+    lines += ["Authorization: Basic " + base64.b64encode(f"{USER}:{password}".encode()).decode()] if password else []
+    return "\r\n".join(lines) + "\r\n\r\n"
+
+
+def until_reloaded(machines):
+    """Waits until no old process of nginx accepts connections: it knows no bucket."""
+    end = time.monotonic() + PATIENCE
+    while any(status_by_tls(machines, handshake("/b/1")) != 101 for _ in range(10)):
+        assert time.monotonic() < end
+
+
+def test_tls_and_passwords(program, seed, tmp_path):
+    with running_machines(program, tmp_path, 2, has_tls=True) as machines:
+        until_reloaded(machines)
+        assert status_by_tls(machines, handshake("/b/1")) == 101
+        assert status_by_tls(machines, handshake("/b/1", origin=None)) == 101
+        assert status_by_tls(machines, handshake("/b/1", password=None)) == 401
+        assert status_by_tls(machines, handshake("/b/1", password="wrong")) == 401
+        assert status_by_tls(machines, handshake("/b/1", origin="https://other.example.org")) == 403
+        assert status_by_tls(machines, handshake("/b/2")) == status_by_tls(machines, handshake("/b/01")) == 404
+        assert status_by_tls(machines, handshake("/b/1").replace("Upgrade", "Other")) == 426
+        assert status_by_tls(machines, handshake("/", password=None)) == 401
+        assert [answer_of(machines, bucket)[0] for bucket in (0, 1, 2)] == [200, 200, 404]
+        with editors(machines, 2, 20, seed, UNPROVED_PAUSE) as programs:
+            reports, _ = edit(machines, 20, programs, lambda: time.sleep(UNPROVED_PAUSE))
+        assert all(report["acknowledged"] for report in reports)

@@ -8,13 +8,19 @@ import subprocess
 import tempfile
 
 
-def context(folder):
-    """Returns a TLS context with a self-signed certificate, which a browser accepts only by an option."""
+def make_certificate(folder):
+    """Writes key.pem and certificate.pem, which is self-signed for 127.0.0.1. Returns the path of the certificate."""
     key, certificate = f"{folder}/key.pem", f"{folder}/certificate.pem"
     command = ["openssl", "req", "-x509", "-newkey", "rsa:2048", "-nodes", "-days", "1", "-subj", "/CN=127.0.0.1"]
-    subprocess.run([*command, "-keyout", key, "-out", certificate], check=True, capture_output=True)
+    names = ["-addext", "subjectAltName=IP:127.0.0.1"]
+    subprocess.run([*command, *names, "-keyout", key, "-out", certificate], check=True, capture_output=True)
+    return certificate
+
+
+def context(folder):
+    """Returns a TLS context with such a certificate, which a browser accepts only by an option."""
     made = ssl.SSLContext(ssl.PROTOCOL_TLS_SERVER)
-    made.load_cert_chain(certificate, key)
+    made.load_cert_chain(make_certificate(folder), f"{folder}/key.pem")
     return made
 
 
