@@ -66,6 +66,7 @@ file = {folder}/{{machine}}/{{bucket}}/{store}
 at = {at}
 start = {unit} start {{file}} {stoppable} {program} --listen {{machine}}:{{port}} --clients 256 --loops 1 --store {{file}}
 stop = {unit} stop {{file}}
+failed = {unit} failed {{file}}
 check = {program} --store {{file}} --check
 reload = {nginx} -s reload
 """

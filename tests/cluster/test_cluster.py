@@ -106,6 +106,18 @@ def test_a_move_that_fails_leaves_the_bucket_where_it_was(few):
     assert health(few, 1)["entries"] == 20
 
 
+def test_a_move_to_a_machine_where_no_server_starts(few):
+    """The first server is started again soon, and not after the time that the other one has to answer."""
+    _, second, third = few.machines
+    store(few.place(1), "d7", 20)
+    settings = few.folder / "cluster.ini"
+    wrong = f"$(test {{machine}} != {third} || echo --wrong) --listen {{machine}}"
+    settings.write_text(settings.read_text().replace("--listen {machine}", wrong))
+    assert "isn't started again" in few.buckets("move", 1, third, succeeds=False)
+    assert few.place(1)[0] == second and not few.file(1, third).exists()
+    assert health(few, 1)["entries"] == 20
+
+
 def test_a_server_that_is_not_running_is_not_moved(few):
     first, second, _ = few.machines
     store(few.place(1), "d7", 20)
