@@ -15,6 +15,7 @@ import json
 import random
 import secrets
 import sys
+import time
 import zlib
 
 import websockets
@@ -22,6 +23,7 @@ import websockets
 MAX, LEFT, RIGHT = 9007199254740991, "left", "right"
 MOST_COMPONENTS, LONGEST_MESSAGE = 256, 1_048_576
 FIRST_PAUSE, LONGEST_PAUSE = 1, 30  # seconds before an attempt to connect
+IDLE = 10  # seconds until a connection without documents is closed
 ABSENT = object()  # in place of a document that doesn't exist
 CREATED, DELETED, MISSING = "ERR_DOC_ALREADY_CREATED", "ERR_DOC_WAS_DELETED", "ERR_DOC_DOES_NOT_EXIST"
 NOT_APPLIED, TOO_NEW, NO_MEMORY = "ERR_OT_OP_NOT_APPLIED", "ERR_OP_VERSION_NEWER_THAN_CURRENT_SNAPSHOT", "ERR_OUT_OF_MEMORY"
@@ -213,7 +215,7 @@ class Document:
     """A document of one client: `stored` is the server's at `version`, `shown` has the pending contents too."""
 
     def __init__(self, client, place, on_change, on_dropped):
-        self.client, self.place, self.seq = client, place, 0
+        self.client, self.place, self.is_closing = client, place, False
         self.on_change, self.on_dropped = on_change, on_dropped
         self.start_anew()
 
@@ -236,6 +238,11 @@ class Document:
     def delete(self):
         self.add({"del": True}, ABSENT)
 
+    def close(self):
+        """Ends the subscription once all contents are stored. Until then `Client.document` opens the same document again."""
+        self.is_closing = self in self.client.documents.values()
+        self.send_next()
+
     def add(self, content, shown):
         if not self.is_ready:
             raise Refused("the document isn't loaded")
@@ -247,14 +254,16 @@ class Document:
 
     def send_next(self):
         """Sends the queue's first content, of at most 256 components, if nothing is in flight."""
+        if self.is_closing and not self.sent and not self.queue:
+            self.client.forget(self)
         if self.sent or not self.queue or not self.is_checked:
             return
         content = self.queue.pop(0)
         if len(content.get("op", ())) > MOST_COMPONENTS:
             self.queue.insert(0, {"op": content["op"][MOST_COMPONENTS:]})
             content = {"op": content["op"][:MOST_COMPONENTS]}
-        self.seq += 1
-        name = {"v": self.version, "src": self.client.source, "seq": self.seq}
+        self.client.seq += 1  # of all documents: one that is opened again uses no number twice
+        name = {"v": self.version, "src": self.client.source, "seq": self.client.seq}
         self.now, self.sent = content, {"a": "op", **self.place, **name, **content}
         too_long = len(json.dumps(self.sent)) > LONGEST_MESSAGE
         self.drop_all(TOO_LONG) if too_long else self.client.send(self.sent)
@@ -345,12 +354,22 @@ class Client:
     def __init__(self, url, source=None, first_pause=FIRST_PAUSE):
         self.url, self.source, self.first_pause = url, source or secrets.token_hex(16), first_pause
         self.documents, self.socket, self.outgoing, self.is_open = {}, None, None, True
+        self.seq, self.idle_since = 0, 0
 
     def document(self, collection, name, on_change=lambda it: None, on_dropped=lambda it, contents, code: None):
-        found = self.documents[collection, name] = Document(self, {"c": collection, "d": name}, on_change, on_dropped)
-        if self.outgoing:
-            found.connected()
+        found = self.documents.get((collection, name))
+        if not found:
+            found = self.documents[collection, name] = Document(self, {"c": collection, "d": name}, on_change, on_dropped)
+            if self.outgoing:
+                found.connected()
+        found.on_change, found.on_dropped, found.is_closing = on_change, on_dropped, False
         return found
+
+    def forget(self, document):
+        document.is_ready = document.is_closing = False
+        self.send({"a": "u", **document.place})
+        self.documents = {place: it for place, it in self.documents.items() if it is not document}
+        self.idle_since = time.monotonic()
 
     def send(self, message):
         if self.outgoing:
@@ -386,7 +405,7 @@ class Client:
         try:
             async for text in self.socket:
                 message = json.loads(text)
-                if (message.get("c"), message.get("d")) in self.documents:
+                if message["a"] != "u" and (message.get("c"), message.get("d")) in self.documents:
                     self.documents[message["c"], message["d"]].receive(message)
         finally:
             writer.cancel()
@@ -418,10 +437,17 @@ class Cluster:
             client.close()
 
     async def run(self):
-        """Runs the clients, also those of documents that are opened meanwhile."""
+        """Runs the clients that have documents, also those that are opened meanwhile. Closes the others."""
         tasks = {}
         while self.is_open:
-            tasks.update((it, asyncio.create_task(it.run())) for it in self.clients.values() if it not in tasks)
+            for client in self.clients.values():
+                client.is_open = bool(client.documents) or time.monotonic() < client.idle_since + IDLE
+                if client in tasks and tasks[client].done():
+                    tasks.pop(client).result()
+                if client.is_open and client not in tasks:
+                    tasks[client] = asyncio.create_task(client.run())
+                if not client.is_open:
+                    client.close()
             await asyncio.sleep(0.05)
         await asyncio.gather(*tasks.values())
 

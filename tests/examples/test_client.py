@@ -279,6 +279,47 @@ def test_restarted_server(program):
     assert dropped == [(second.RESTARTED, [{"op": [{"p": ["n"], "na": 1}]}])]
 
 
+def test_closed_documents(server, monkeypatch):
+    """A document is closed once its edits are stored, and the connection after its last document. Both can be opened again."""
+    monkeypatch.setattr(second, "IDLE", 0.3)
+
+    async def until(condition):
+        while not condition():
+            await asyncio.sleep(0.01)
+
+    async def play():
+        cluster = second.Cluster(server.url, 16, first_pause=0.02)
+        task = asyncio.create_task(cluster.run())
+        first, same, other = (cluster.document("board", it) for it in ("d5", "d15", "1"))
+        assert first.client is same.client and first.client is not other.client
+        await until(lambda: first.is_ready and same.is_ready and other.is_ready)
+        first.create({"n": 0})
+        first.submit([{"p": ["n"], "na": 1}])
+        first.client.reconnect()
+        first.close()
+        assert cluster.document("board", "d5") is first
+        first.close()
+        await until(lambda: not first.is_ready and first.client.outgoing)
+        assert list(first.client.documents.values()) == [same]
+        with pytest.raises(second.Refused):
+            first.submit([{"p": ["n"], "na": 1}])
+        await asyncio.sleep(1)
+        assert first.client.outgoing
+        same.close()
+        same.close()
+        await until(lambda: not first.client.outgoing)
+        assert not first.client.documents and other.client.outgoing
+        again = cluster.document("board", "d5")
+        await until(lambda: again.is_ready)
+        again.submit([{"p": ["n"], "na": 1}])
+        await until(lambda: not again.sent)
+        cluster.close()
+        await asyncio.gather(task)
+        return again.client is first.client, again.version, again.stored
+
+    assert asyncio.run(asyncio.wait_for(play(), PATIENCE)) == (True, 3, {"n": 2})
+
+
 def test_length():
     source = pathlib.Path(second.__file__).read_text()
-    assert len(source.splitlines()) <= 435  # of which 32 are those of a cluster
+    assert len(source.splitlines()) <= 460  # of which 38 are those of a cluster, and 18 close documents
