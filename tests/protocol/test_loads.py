@@ -42,3 +42,11 @@ def test_fixed_rate(tmp_path, server, scenario, counts):
 def test_storm(tmp_path, server):
     found = figures(tmp_path, server, "load", "storm")
     assert found["client"]["count"] == 3 * found["all"]["count"] > 0
+
+
+def test_servers(program):
+    """One server and two, with and without stores. Each generator opens its clients and compares the stored operations."""
+    command = [ROOT / "bench" / "cluster", "--server", program, "--processors", "2", "--clients", "4", "--rounds", "1"]
+    ran = subprocess.run([*command, "--seconds", "2"], capture_output=True, text=True, timeout=PATIENCE)
+    assert ran.returncode == 0, ran.stderr
+    assert len([it for it in ran.stdout.splitlines() if it.startswith("processors: 2")]) == 4
