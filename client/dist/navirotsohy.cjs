@@ -865,6 +865,7 @@ var Machine = class {
     this.last = null;
     this.inFlight = null;
     this.queue = [];
+    this.preventCompose = false;
     this.arrived = /* @__PURE__ */ new Map();
     this.fetched = null;
     this.wanted = false;
@@ -1397,8 +1398,9 @@ var Machine = class {
   enqueue(content, waiter) {
     const last = this.queue[this.queue.length - 1];
     const length = content.op ? lengthOf(content.op) : 0;
-    const isBoth = last !== void 0 && last.content.op !== void 0 && content.op !== void 0;
-    if (!isBoth || !isComposable(last.content.op.length + content.op.length, last.length + length)) {
+    const areEdits = last !== void 0 && last.content.op !== void 0 && content.op !== void 0;
+    const isJoined = areEdits && !this.preventCompose;
+    if (!isJoined || !isComposable(last.content.op.length + content.op.length, last.length + length)) {
       this.queue.push({ content, length, waiters: [waiter], since: this.now() });
       return;
     }
@@ -1681,6 +1683,16 @@ var Doc = class extends Emitter {
    */
   get wanted() {
     return coreOf(this).machine.wanted;
+  }
+  /**
+   * Whether each edit is stored as an operation of its own. Otherwise `submit` joins an edit with one that waits.
+   * @type {boolean}
+   */
+  get preventCompose() {
+    return coreOf(this).machine.preventCompose;
+  }
+  set preventCompose(prevent) {
+    coreOf(this).machine.preventCompose = prevent;
   }
   // Reading ------------------------------------------------------------------------------------------------------
   /**

@@ -141,6 +141,18 @@ export class Doc extends Emitter {
     return coreOf(this).machine.wanted;
   }
 
+  /**
+   * Whether each edit is stored as an operation of its own. Otherwise `submit` joins an edit with one that waits.
+   * @type {boolean}
+   */
+  get preventCompose() {
+    return coreOf(this).machine.preventCompose;
+  }
+
+  set preventCompose(prevent) {
+    coreOf(this).machine.preventCompose = prevent;
+  }
+
   // Reading ------------------------------------------------------------------------------------------------------
 
   /**

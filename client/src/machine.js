@@ -67,6 +67,7 @@ export class Machine {
     this.last = null; // the source and number of the stored operation before `version`, if it was seen
     this.inFlight = null; // { content, seq, text, sent, answered, waiters, since, lost, dropped }; see `doom`
     this.queue = []; // { content, length, waiters, since }
+    this.preventCompose = false; // an edit isn't joined with a waiting one
     this.arrived = new Map(); // stored operations received before their turn, by version
     this.fetched = null; // a snapshot to compare with, once its version is seen
     this.wanted = false; // a subscription is wanted
@@ -600,8 +601,9 @@ export class Machine {
   enqueue(content, waiter) {
     const last = this.queue[this.queue.length - 1];
     const length = content.op ? lengthOf(content.op) : 0;
-    const isBoth = last !== undefined && last.content.op !== undefined && content.op !== undefined;
-    if (!isBoth || !isComposable(last.content.op.length + content.op.length, last.length + length)) {
+    const areEdits = last !== undefined && last.content.op !== undefined && content.op !== undefined;
+    const isJoined = areEdits && !this.preventCompose;
+    if (!isJoined || !isComposable(last.content.op.length + content.op.length, last.length + length)) {
       this.queue.push({ content, length, waiters: [waiter], since: this.now() });
       return;
     }

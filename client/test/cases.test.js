@@ -56,6 +56,24 @@ test('one operation is in flight, the next ones are composed and sent afterwards
   holds(doc, 6, 'xabcdefg');
 });
 
+test('with preventCompose each operation is sent by itself', OPTIONS, () => {
+  const { doc, socket } = loaded();
+  assert.strictEqual(doc.preventCompose, false);
+  doc.preventCompose = true;
+  assert.strictEqual(doc.preventCompose, true);
+  for (const [at, letter] of [...'def'].entries()) doc.submit(insert(3 + at, letter));
+  assert.strictEqual(doc.pending, 3);
+  socket.taken();
+  socket.answer(stored(3, insert(0, 'x')), acknowledged(4, 1));
+  assert.deepStrictEqual(socket.taken(), [{ a: 'op', ...ADDRESS, v: 5, src: 'me', seq: 2, op: insert(5, 'e') }]);
+  doc.preventCompose = false;
+  doc.submit(insert(7, 'g'));
+  socket.answer(acknowledged(5, 2));
+  assert.deepStrictEqual(socket.taken(), [{ a: 'op', ...ADDRESS, v: 6, src: 'me', seq: 3, op: insert(6, 'fg') }]);
+  socket.answer(acknowledged(6, 3));
+  holds(doc, 7, 'xabcdefg');
+});
+
 test('after a reconnect the same message is sent again, and stored once', OPTIONS, () => {
   const all = loaded();
   const { doc, events, socket } = all;

@@ -102,6 +102,12 @@ export class Doc<T = any> extends Emitter<DocEvents<T>> {
      * @returns {boolean}
      */
     get wanted(): boolean;
+    set preventCompose(arg: boolean);
+    /**
+     * Whether each edit is stored as an operation of its own. Otherwise `submit` joins an edit with one that waits.
+     * @type {boolean}
+     */
+    get preventCompose(): boolean;
     /**
      * Brings the document up to date, without a subscription.
      * @returns {Promise<this>} is fulfilled when `data` is the document at the server's version of the fetch

@@ -37,6 +37,7 @@ export class Machine {
         dropped: any[];
     };
     queue: any[];
+    preventCompose: boolean;
     arrived: Map<any, any>;
     fetched: {
         version: any;

@@ -70,6 +70,7 @@ export async function main(): Promise<void> {
   await client.whenNothingPending();
   await board.unsubscribe();
   await board.destroy({ discard: true });
+  board.preventCompose = !board.preventCompose;
   const waiting: boolean = board.waiting || client.waiting || board.wanted || board.state === 'live';
   const one: Component = operation[0];
   transformComponent(one, one, waiting ? 'left' : 'right').concat(compose(operation, cross(operation, operation).right));
