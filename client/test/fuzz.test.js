@@ -8,56 +8,17 @@ import assert from 'node:assert';
 import fs from 'node:fs';
 import { test } from 'node:test';
 import { isDeepStrictEqual } from 'node:util';
-import { apply, cross, invert, textChange } from '../src/index.js';
-import { Net } from './support/net.js';
+import { apply, cross, invert } from '../src/index.js';
 import { flush } from './support/clock.js';
+import { randomEdit, startDocument } from './support/edits.js';
+import { Net } from './support/net.js';
 import { OPTIONS } from './support/options.js';
 import { choices, seedOf } from './support/random.js';
 
 const RUNS = Number(process.env.RUNS || 12);
 const STEPS = 250;
 const CLIENTS = 3;
-const START = () => ({ t: '', l: [], o: {}, n: 0, far: Number.MAX_SAFE_INTEGER - 3 });
-
-// Edits --------------------------------------------------------------------------------------------------------
-
-function textEdit({ random, pick }, { t }) {
-  const points = [...t];
-  const from = random(points.length + 1);
-  const removed = random(3) ? 0 : random(5);
-  const put = removed ? '' : pick(['a', '😀', 'bcd', 'é']);
-  const after = [...points.slice(0, from), put, ...points.slice(from + removed)].join('');
-  return textChange(['t'], t, after, from);
-}
-
-function listEdit({ random, pick }, { l }) {
-  const at = random(l.length + 1);
-  if (l.length < 6 || at === l.length) return [{ p: ['l', at], li: { s: pick(['', 'x']), n: 0 } }];
-  return [{ p: ['l', at], ld: l[at], ...(random(2) ? { li: { s: 'new', n: 1 } } : {}) }];
-}
-
-function itemEdit({ random }, { l }) {
-  const at = random(l.length);
-  const kind = random(3);
-  if (kind === 0) return [{ p: ['l', at, 'n'], na: 1 }];
-  if (kind === 1) return [{ p: ['l', at, 's', 0], si: 'q' }];
-  return [{ p: ['l', at], ld: l[at] }, { p: ['l', random(l.length)], li: l[at] }];
-}
-
-function keyEdit({ random, pick }) {
-  const p = ['o', pick(['a', 'b', 'c'])];
-  return pick([[{ p, oi: random(9) }], [{ p, od: null }], [{ p, od: 1, oi: { k: random(9) } }]]);
-}
-
-function edit(chosen, data) {
-  const { random } = chosen;
-  const kind = random(7);
-  if (kind < 2) return textEdit(chosen, data);
-  if (kind === 2) return listEdit(chosen, data);
-  if (kind < 5 && data.l.length > 0) return itemEdit(chosen, data);
-  if (kind === 5) return [{ p: ['far'], na: random(3) - 1 }];
-  return keyEdit(chosen);
-}
+const START = () => startDocument(Number.MAX_SAFE_INTEGER - 3);
 
 // A client ------------------------------------------------------------------------------------------------------
 
@@ -120,7 +81,7 @@ function step(chosen, net, all, hasLife) {
   const kind = random(30);
   if (kind < 9) {
     const { data } = one.doc;
-    if (data) one.submit(() => one.doc.submit(edit(chosen, data)));
+    if (data) one.submit(() => one.doc.submit(randomEdit(chosen, data)));
   } else if (kind === 9) {
     if (random(2)) one.client.disconnect();
     else one.client.connect();
