@@ -1,0 +1,5 @@
+pub mod Answers
+pub mod Commands
+pub mod Outcome
+pub mod Reading
+pub mod View
