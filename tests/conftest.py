@@ -12,6 +12,8 @@ from support.server import UNPROVED, Server, default_server  # noqa: E402
 def pytest_addoption(parser):
     parser.addoption("--server", default=default_server(), help="the program of the server")
     parser.addoption("--steps", help="the program of the steps")
+    parser.addoption("--reference", help="the program of the reference client")
+    parser.addoption("--traces", default="200", help="the number of lists of steps whose traces tests/clients compares")
     parser.addoption("--edits", default="300", help="the number of edits of each client of tests/clients")
     parser.addoption("--seconds", default="60", help="how long the clients of tests/cluster edit")
     parser.addoption("--seed", default="1", help="the seed of random edits and attacks")
@@ -38,6 +40,14 @@ def steps_program(request):
     found = request.config.getoption("--steps")
     if not found:
         pytest.skip("no program of the steps: name one by --steps")
+    return str(pathlib.Path(found).resolve())
+
+
+@pytest.fixture(scope="session")
+def reference_program(request):
+    found = request.config.getoption("--reference")
+    if not found:
+        pytest.skip("no program of the reference client: name one by --reference")
     return str(pathlib.Path(found).resolve())
 
 

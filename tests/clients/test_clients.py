@@ -1,4 +1,5 @@
-"""Clients that edit one document concurrently: in Python, in Node, and the page in Chromium. And the client with the server.
+"""Clients that edit one document concurrently: in Python, in Node, and the page in Chromium. And the client with the server, and
+with the reference client.
 
 The client in Python shares no code with the others. Each client makes as many edits as --edits says, subscribes to the
 document, and compares its copy with a fresh fetch. Each runs alone too: client.py, client.js and page.py.
@@ -6,6 +7,8 @@ document, and compares its copy with a fresh fetch. Each runs alone too: client.
 Needs Node 20, python3-websockets, node-ws and chromium.
 """
 import contextlib
+import itertools
+import json
 import pathlib
 import re
 import subprocess
@@ -18,11 +21,17 @@ PYTHON = "/usr/bin/python3"  # Debian's, which has Debian's packages
 PAIRS = "1000"  # random cases of agreement.js
 PATIENCE = 900  # seconds for all clients
 GRACE = 10  # seconds for the others after one has failed
+MOST_SHOWN = 3  # differences of traces that are printed
 
 
 @pytest.fixture(scope="session")
 def edits(request):
     return request.config.getoption("--edits")
+
+
+@pytest.fixture(scope="session")
+def traces(request):
+    return request.config.getoption("--traces")
 
 
 def run_script(*command):
@@ -33,6 +42,25 @@ def run_script(*command):
 
 def test_transforms_agree_with_the_server(program, seed):
     run_script("node", HERE / "agreement.js", program, PAIRS, seed)
+
+
+def differing(commands, states, answers):
+    """Yields each command after which a client of client/src has another state than the reference client."""
+    for command, state, answer in itertools.zip_longest(commands, states, answers):
+        wanted, found = json.loads(state or "null"), json.loads(answer or "null")
+        if not found or "error" in found or wanted and wanted["state"] != found:
+            yield f"{command}client/src: {state}reference: {answer}"
+
+
+def test_traces(reference_program, traces, seed, tmp_path):
+    """The client's states are those of the reference client on random lists of steps."""
+    run_script("node", HERE / "traces.js", tmp_path, traces, seed)
+    commands, states, answers = (tmp_path / it for it in ("commands", "states", "answers"))
+    with open(commands) as given, open(answers, "w") as written:
+        subprocess.run([reference_program], stdin=given, stdout=written, timeout=PATIENCE, check=True)
+    with open(commands) as given, open(states) as wanted, open(answers) as written:
+        first = list(itertools.islice(differing(given, wanted, written), MOST_SHOWN))
+    assert not first, "\n".join(first)
 
 
 def test_restarted_server(program):
