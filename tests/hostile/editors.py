@@ -1,5 +1,7 @@
 """Honest clients: each edits its copy of a document, and compares it with the server's at the end."""
+import json
 import random
+import subprocess
 import threading
 
 from support.edits import START, apply, random_edit
@@ -41,12 +43,14 @@ class Editor:
         self.send(a="f", v=self.version)
         self.until("f")
         while self.version in self.early:
-            entry = self.early.pop(self.version)
-            if "create" in entry:
-                self.document = entry["create"]["data"]
-            for component in entry.get("op", ()):
-                apply(self.document, component)
-            self.version += 1
+            self.process(self.early.pop(self.version))
+
+    def process(self, entry):
+        if "create" in entry:
+            self.document = entry["create"]["data"]
+        for component in entry.get("op", ()):
+            apply(self.document, component)
+        self.version += 1
 
     def submit(self, **content):
         self.number += 1
@@ -61,6 +65,60 @@ class Editor:
     def edit(self, count):
         for _ in range(count):
             self.submit(op=[random_edit(self.chance, self.document)])
+
+    def leave(self):
+        self.connection.tear()
+
+
+class ReferenceEditor(Editor):
+    """An honest client whose document and edits the reference client has. It may make more edits while one is sent."""
+
+    def __init__(self, server, number, seed, documents, program):
+        self.client = None
+        super().__init__(server, number, seed, documents)
+        self.client = subprocess.Popen([program], stdin=subprocess.PIPE, stdout=subprocess.PIPE, text=True)
+        create = {"type": "json0", "data": self.document}
+        self.command(a="start", src=self.source, v=self.version, seq=self.number + 1, create=create)
+
+    def command(self, **line):
+        """Executes a command of the program. Returns the client's state after it."""
+        self.client.stdin.write(json.dumps(line) + "\n")
+        self.client.stdin.flush()
+        state = json.loads(self.client.stdout.readline())
+        if "error" in state:
+            raise Fault(f"the reference client refuses {line}: {state['error']}")
+        self.version, self.document, self.shown = state["v"], state["data"], state["shown"]
+        return state
+
+    def process(self, entry):
+        if self.client:
+            self.command(**entry)
+        else:
+            super().process(entry)
+
+    def edit(self, count):
+        for _ in range(count):
+            self.make_edits()
+            while (sent := self.command(a="send")["sent"]) is not None:
+                self.make_edits()
+                self.submit(op=sent["op"])
+
+    def make_edits(self):
+        """Makes an edit or none, of one or two components."""
+        for _ in range(self.chance.randrange(2)):
+            self.command(a="edit", op=[random_edit(self.chance, self.shown)])
+
+    def leave(self):
+        super().leave()
+        self.client.stdin.close()
+        self.client.wait()
+
+
+def enter_editors(server, count, seed, documents=1, program=None):
+    """Returns editors. The last one of each document is a reference client, if there is a program of it."""
+    editors = [Editor(server, it, seed, documents) for it in range(count - bool(program) * documents)]
+    references = range(len(editors), count)
+    return editors + [ReferenceEditor(server, it, seed, documents, program) for it in references]
 
 
 class Editing:

@@ -1,11 +1,12 @@
-"""Eight honest clients edit two documents while all attacks are repeated for two minutes."""
+"""Eight honest clients edit two documents while all attacks are repeated for two minutes. One client of each document is a
+reference client, if there is a program of it."""
 import random
 import threading
 import time
 
 import attacks
 import pytest
-from editors import Editor, Editing, differences, log_of
+from editors import Editing, differences, enter_editors, log_of
 from support.frames import Full
 from support.server import UNPROVED
 
@@ -71,10 +72,10 @@ class Attacks:
 
 
 @pytest.mark.slow
-def test_all_at_once(server, seed):
+def test_all_at_once(server, seed, reference):
     base = server.megabytes()
     attacks.store_large(server)
-    editors = [Editor(server, it, seed, DOCUMENTS) for it in range(EDITORS)]
+    editors = enter_editors(server, EDITORS, seed, DOCUMENTS, reference)
     sockets = server.sockets()
     with Editing(editors) as editing:
         hostile = Attacks(server, seed)
@@ -86,7 +87,7 @@ def test_all_at_once(server, seed):
     assert not list(attacks.torn_faults(server, hostile.torn, log_of(server, editors[0].place)))
     stored = sum(it.version for it in editors[:DOCUMENTS])
     for editor in editors:
-        editor.connection.tear()
+        editor.leave()
     attacks.all_places(server)
     assert server.is_running()
     print(f"{hostile.done}; {stored} edits; {server.megabytes('VmHWM'):.0f} MB at most")
