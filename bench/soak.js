@@ -1,12 +1,13 @@
 /*
  * A soak: many clients edit some documents for a long time, and some of them lose their connections.
  *
- *     node bench/soak.js SERVER [OPERATIONS [CLIENTS [DOCUMENTS [SEED]]]]
+ *     node bench/soak.js SERVER [OPERATIONS [CLIENTS [DOCUMENTS [SEED [PROGRAM]]]]]
  *
  * SERVER is the program, which is started, or the address of a running one (ws://..). CLIENTS (64) store OPERATIONS
  * (1,000,000); each edits one of DOCUMENTS (8) with the client of client/src, and makes its next edit after the last one
  * is acknowledged. About one operation in a thousand is sent on a socket that is torn down at once; its client reconnects
- * with the same source and sends again what wasn't acknowledged.
+ * with the same source and sends again what wasn't acknowledged. PROGRAM is that of the reference client: then the last
+ * client is one.
  *
  * At the end each client's document must be that of a fresh fetch, at the same version, and each document the replay of
  * its log. In the log each acknowledged operation must have the version of its acknowledgement, and no source and number
@@ -20,8 +21,9 @@ import { isDeepStrictEqual } from 'node:util';
 import { Client, apply } from '../client/src/index.js';
 import { choices } from '../tests/clients/random.js';
 import { WebSocket } from '../tests/clients/websocket.js';
+import { ReferenceDocument } from './reference.js';
 
-const [server, operations = '1000000', clients = '64', documents = '8', seed = '1'] = process.argv.slice(2);
+const [server, operations = '1000000', clients = '64', documents = '8', seed = '1', program = ''] = process.argv.slice(2);
 const COLLECTION = 'soak';
 const START = { text: '', list: [], numbers: { a: 0, b: 0 }, members: {} };
 const TEXT = 120; // maximal length of a text
@@ -87,11 +89,17 @@ class Participant {
   constructor(address, number, acknowledged) {
     this.number = number;
     this.acknowledged = acknowledged; // of the document: [client, number of the operation] by version
-    this.client = new Client(address, { source: `soak-${number}`, WebSocket: this.tearable(), retryDelay: 20 });
-    this.document = this.client.document(COLLECTION, String(number % Number(documents)));
+    this.source = `soak-${number}`;
+    this.id = String(number % Number(documents));
+    this.enter(address);
     this.document.on('stored', ({ version, seq }) => this.stored(version, seq));
     this.document.on('refused', ({ error }) => this.refused(error));
     this.document.on('healed', ({ version }) => state.faults.push(`client ${number} was healed at version ${version}`));
+  }
+
+  enter(address) {
+    this.client = new Client(address, { source: this.source, WebSocket: this.tearable(), retryDelay: 20 });
+    this.document = this.client.document(COLLECTION, this.id);
   }
 
   // Keeps the socket, to tear it down.
@@ -106,14 +114,22 @@ class Participant {
   }
 
   async play() {
-    await this.document.subscribe();
-    await this.document.createIfAbsent(START);
+    await this.begin();
     while (state.stored < state.wanted) {
       this.edit();
       if (random(20) === 0) this.edit();
       if (random(KILL) === 0) this.kill();
       await this.document.whenNothingPending();
     }
+  }
+
+  async begin() {
+    await this.document.subscribe();
+    await this.document.createIfAbsent(START);
+  }
+
+  leave() {
+    this.client.disconnect();
   }
 
   edit() {
@@ -134,6 +150,30 @@ class Participant {
   refused(error) {
     state.refused += 1;
     if (error.code !== 'ERR_OT_OP_NOT_APPLIED') state.faults.push(`client ${this.number}: ${error.code}`);
+  }
+}
+
+/** A reference client. Another client creates its document. */
+class ReferenceParticipant extends Participant {
+  enter(address) {
+    this.document = new ReferenceDocument(program, address, this.source, COLLECTION, this.id);
+  }
+
+  async begin() {
+    await this.document.subscribe();
+  }
+
+  leave() {
+    this.document.close();
+  }
+
+  edit() {
+    this.document.edit(randomOperation);
+  }
+
+  kill() {
+    state.killed += 1;
+    this.document.socket.terminate();
   }
 }
 
@@ -256,17 +296,17 @@ function cost(child) {
 // Runs the clients and checks the result. Returns the seconds of the operations.
 async function soak(address) {
   const acknowledged = Array.from({ length: Number(documents) }, () => []);
-  const participants = Array.from(
-    { length: Number(clients) },
-    (_, number) => new Participant(address, number, acknowledged[number % Number(documents)]),
-  );
+  const participants = Array.from({ length: Number(clients) }, (_, number) => {
+    const Kind = program && number === Number(clients) - 1 ? ReferenceParticipant : Participant;
+    return new Kind(address, number, acknowledged[number % Number(documents)]);
+  });
   const began = Date.now();
   const elapsed = () => (Date.now() - began) / 1000;
   const progress = setInterval(() => console.error(`${state.stored} after ${elapsed().toFixed(0)} s`), 10000);
   await play(participants).catch((error) => state.faults.push(error.message));
   const seconds = elapsed();
   clearInterval(progress);
-  for (const { client } of participants) client.disconnect();
+  for (const one of participants) one.leave();
   for (const id of acknowledged.keys()) {
     const editors = participants.filter(({ document }) => document.id === String(id));
     state.faults.push(...(await faultsOfDocument(address, String(id), editors)));
