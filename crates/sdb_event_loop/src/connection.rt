@@ -7,7 +7,6 @@ use crate::closing::{ClosingConnection, Progress, write_close};
 use crate::deadlines::{Deadlines, DueAction};
 use crate::document_group::DocumentGroup;
 use crate::frame_sink::FrameSink;
-use crate::large_turns::LARGE_INPUT;
 use crate::link::Link;
 use crate::log::SessionReport;
 use crate::loop_buffers::{LoopOutput, LoopTime};
@@ -33,10 +32,8 @@ pub(crate) struct Connection<B: PassBrand> {
     pub(crate) partial: Vec<u8>,
     // Whether they may begin with a complete frame.
     pub(crate) has_frames: bool,
-    // Whether a fragment of a message was received, but not the last one, and the length in bytes of
-    // the frames of such a message.
+    // Whether a fragment of a message was received, but not the last one.
     pub(crate) is_in_message: bool,
-    pub(crate) fragment_bytes: usize,
     pub(crate) deadlines: Deadlines,
     pub(crate) groups: Vec<DocumentGroup>,
     pub(crate) messages: u64,
@@ -107,7 +104,6 @@ impl<B: PassBrand> Connection<B> {
             partial: Vec::new(alloc),
             has_frames: false,
             is_in_message: false,
-            fragment_bytes: 0,
             deadlines: Deadlines::new(time.second),
             groups: Vec::new(alloc),
             messages: 0,
@@ -135,11 +131,6 @@ impl<B: PassBrand> Connection<B> {
         let opened = self.session.opening_to(&mut sink);
         opened?;
         self.send(time, output)
-    }
-
-    /// Returns whether a turn of the client is a large one.
-    pub(crate) fn has_large_input(&self) -> bool {
-        self.partial.len().saturating_add(self.fragment_bytes) >= LARGE_INPUT
     }
 
     /// Records that input waits, or that the client has closed its sending side.

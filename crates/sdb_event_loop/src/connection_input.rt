@@ -98,16 +98,7 @@ impl<B: PassBrand> Connection<B> {
     {
         self.messages = self.messages.saturating_add(1);
         self.is_in_message = false;
-        self.fragment_bytes = 0;
         self.deadlines.end_message();
-    }
-
-    // Records a frame of a message that isn't complete.
-    fn record_fragment(&mut self, len: usize)
-        ensures { pass_number self.new.pass.pass ≡ pass_number self.old.pass.pass }
-    {
-        self.is_in_message = true;
-        self.fragment_bytes = self.fragment_bytes.saturating_add(len);
     }
 
     fn answer_binary(&mut self, output: &mut LoopOutput) -> Result<(), SessionEnd>
@@ -216,7 +207,7 @@ impl<B: PassBrand> Connection<B> {
         let Step { consumed, message } = step;
         match message {
             Some(received) => self.answer_message(received.message(bytes), context, time, output)?,
-            None => self.record_fragment(consumed),
+            None => self.is_in_message = true,
         }
         Ok(consumed)
     }
