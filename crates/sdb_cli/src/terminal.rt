@@ -1,4 +1,4 @@
-//! A terminal that keeps what is printed, for tests of programs.
+//! A terminal that keeps what is printed, and streams that fail, for tests of programs.
 use std::alloc::{AllocError, Global};
 use std::cell::RefCell;
 use std::fmt::{Display, Write};
@@ -76,6 +76,66 @@ impl Eprint for TerminalBuffer {
 }
 
 impl Alloc for TerminalBuffer {
+    type A = Global;
+
+    fn alloc(&self) -> Global {
+        self.alloc
+    }
+}
+
+/// Streams of which standard input and standard output fail at each call with `BrokenPipe`.
+#[derive(Drop)]
+pub struct ClosedStreams {
+    alloc: Global,
+    /// The text printed to standard error.
+    pub err: RefCell<String>,
+}
+
+impl ClosedStreams {
+    /// Creates them with no text.
+    pub fn new(alloc: Global) -> ClosedStreams {
+        ClosedStreams {
+            alloc,
+            err: RefCell::new(String::new(alloc)),
+        }
+    }
+}
+
+fn closed() -> io::Result<()> {
+    Err(io::Error::from(io::ErrorKind::BrokenPipe))
+}
+
+impl io::Read for ClosedStreams {
+    fn read(&mut self, _buf: &mut [u8]) -> io::Result<usize> {
+        Err(io::Error::from(io::ErrorKind::BrokenPipe))
+    }
+}
+
+impl Print for ClosedStreams {
+    fn print<D: Display + Drop>(&self, _value: D) -> io::Result<()> {
+        closed()
+    }
+
+    fn println<D: Display + Drop>(&self, _value: D) -> io::Result<()> {
+        closed()
+    }
+
+    fn write_all(&self, _bytes: &[u8]) -> io::Result<()> {
+        closed()
+    }
+}
+
+impl Eprint for ClosedStreams {
+    fn eprint<D: Display + Drop>(&self, value: D) -> io::Result<()> {
+        add(&self.err, value, "")
+    }
+
+    fn eprintln<D: Display + Drop>(&self, value: D) -> io::Result<()> {
+        add(&self.err, value, "\n")
+    }
+}
+
+impl Alloc for ClosedStreams {
     type A = Global;
 
     fn alloc(&self) -> Global {

@@ -2,14 +2,13 @@
 //! the command line.
 use crate::command_line::{check_words, run_commands};
 use crate::fault::CommandFault;
-use sdb_cli::terminal::{TerminalBuffer, argument_list};
+use sdb_cli::terminal::{ClosedStreams, TerminalBuffer, argument_list};
 use sdb_cli::{STATUS_FAULT, STATUS_OK, STATUS_USAGE, print_help_or_error};
 use sdb_client::{ProcessFault, ReferenceClient, SendFault};
 use sdb_component::Op;
 use sdb_oplog::{Content, Entry, Moment, Submission};
 use sdb_value::Json;
 use std::alloc::Global;
-use std::fmt::Display;
 use std::io;
 use std::test::Fail;
 
@@ -98,46 +97,12 @@ fn texts_of_faults_are_those_of_the_library(rt: HostRuntime) -> Result<(), Fail>
     Ok(())
 }
 
-// An input and an output on which each call fails.
-#[derive(Drop)]
-struct FailingStreams {
-    alloc: Global,
-}
-
-impl io::Read for FailingStreams {
-    fn read(&mut self, _buf: &mut [u8]) -> io::Result<usize> {
-        Err(io::Error::from(io::ErrorKind::BrokenPipe))
-    }
-}
-
-impl Print for FailingStreams {
-    fn print<D: Display + Drop>(&self, _value: D) -> io::Result<()> {
-        Err(io::Error::from(io::ErrorKind::BrokenPipe))
-    }
-
-    fn println<D: Display + Drop>(&self, _value: D) -> io::Result<()> {
-        Err(io::Error::from(io::ErrorKind::BrokenPipe))
-    }
-
-    fn write_all(&self, _bytes: &[u8]) -> io::Result<()> {
-        Err(io::Error::from(io::ErrorKind::BrokenPipe))
-    }
-}
-
-impl Alloc for FailingStreams {
-    type A = Global;
-
-    fn alloc(&self) -> Global {
-        self.alloc
-    }
-}
-
 #[test]
 fn a_failed_stream_ends_with_status_1(rt: HostRuntime) {
     let alloc = rt.alloc();
-    let input = FailingStreams { alloc };
+    let input = ClosedStreams::new(alloc);
     assert!(rt; prints(alloc, input, "fault: read\n", STATUS_FAULT));
-    let output = FailingStreams { alloc };
+    let output = ClosedStreams::new(alloc);
     assert!(rt; run_commands(&output, START) == STATUS_FAULT);
 }
 

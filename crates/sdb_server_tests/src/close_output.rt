@@ -4,15 +4,13 @@ ghost use Rattle.std.specs.Prelude.{◌≡◌};
 ghost use Rattle.sdb_backend.specs.PassModel.{IsHostOfBackend, IsPassOfBackend};
 
 use sdb_backend::{Audit, Backend, CloseRefused};
-use sdb_cli::terminal::TerminalBuffer;
+use sdb_cli::terminal::{ClosedStreams, TerminalBuffer};
 use sdb_cli::{STATUS_FAULT, STATUS_OK};
 use sdb_oplog::{Content, Key, Moment, Submission};
 use sdb_server_cli::print_close;
 use sdb_submit::{NoGate, submit};
 use sdb_value::Json;
 use std::alloc::Global;
-use std::fmt::Display;
-use std::io;
 use std::process::Abort;
 use std::sync::Wait;
 
@@ -90,55 +88,14 @@ fn a_server_without_a_pass_prints_why(rt: HostRuntime) {
     );
 }
 
-// A terminal whose standard output takes nothing.
-#[derive(Drop)]
-struct ClosedOutput {
-    terminal: TerminalBuffer,
-}
-
-impl Print for ClosedOutput {
-    fn print<D: Display + Drop>(&self, _value: D) -> io::Result<()> {
-        Err(io::Error::from(io::ErrorKind::BrokenPipe))
-    }
-
-    fn println<D: Display + Drop>(&self, _value: D) -> io::Result<()> {
-        Err(io::Error::from(io::ErrorKind::BrokenPipe))
-    }
-
-    fn write_all(&self, _bytes: &[u8]) -> io::Result<()> {
-        Err(io::Error::from(io::ErrorKind::BrokenPipe))
-    }
-}
-
-impl Eprint for ClosedOutput {
-    fn eprint<D: Display + Drop>(&self, value: D) -> io::Result<()> {
-        self.terminal.eprint(value)
-    }
-
-    fn eprintln<D: Display + Drop>(&self, value: D) -> io::Result<()> {
-        self.terminal.eprintln(value)
-    }
-}
-
-impl Alloc for ClosedOutput {
-    type A = Global;
-
-    fn alloc(&self) -> Global {
-        self.terminal.alloc()
-    }
-}
-
 #[test]
 fn a_dump_that_is_not_written_ends_with_status_1(rt: HostRuntime) {
     let alloc = rt.alloc();
     for (is_dumping, wanted) in [(false, STATUS_OK), (true, STATUS_FAULT)] {
-        let output = ClosedOutput {
-            terminal: TerminalBuffer::new(alloc),
-        };
+        let output = ClosedStreams::new(alloc);
         let closed = close_with_one_document(&rt, alloc, rt, true);
         let status = print_close(&output, closed, is_dumping).expect(&rt, "a status");
-        let ClosedOutput { terminal } = output;
-        let err = terminal.err.into_inner();
+        let err = output.err.into_inner();
         assert!(rt; status == wanted && err.as_str() == STORED);
     }
 }

@@ -1,7 +1,7 @@
 //! Tests of command lines, their output and the exit statuses of runs.
 use crate::clients::{FIRST_INIT, open_session};
 use crate::connections::close_session;
-use sdb_cli::terminal::{TerminalBuffer, argument_list};
+use sdb_cli::terminal::{ClosedStreams, TerminalBuffer, argument_list};
 use sdb_cli::{STATUS_FAULT, STATUS_OK, STATUS_USAGE};
 use sdb_projection::{Projection, Table, TableFault};
 use sdb_server::ListClock;
@@ -10,7 +10,6 @@ use sdb_server_cli::{
     parse_options, parse_run, run, serve_at, serve_until_end, table_of,
 };
 use std::alloc::Global;
-use std::fmt::Display;
 use std::net::TcpListener;
 use std::process::Abort;
 use std::{io, thread};
@@ -389,40 +388,6 @@ fn a_port_in_use_ends_with_status_1(rt: HostRuntime) {
     assert!(rt; run(rt, words.as_slice()).ok() == Some(STATUS_FAULT));
 }
 
-// An input and an output on which each call fails.
-#[derive(Drop)]
-struct FailingStreams {
-    alloc: Global,
-}
-
-impl io::Read for FailingStreams {
-    fn read(&mut self, _buf: &mut [u8]) -> io::Result<usize> {
-        Err(io::Error::from(io::ErrorKind::BrokenPipe))
-    }
-}
-
-impl Print for FailingStreams {
-    fn print<D: Display + Drop>(&self, _value: D) -> io::Result<()> {
-        Err(io::Error::from(io::ErrorKind::BrokenPipe))
-    }
-
-    fn println<D: Display + Drop>(&self, _value: D) -> io::Result<()> {
-        Err(io::Error::from(io::ErrorKind::BrokenPipe))
-    }
-
-    fn write_all(&self, _bytes: &[u8]) -> io::Result<()> {
-        Err(io::Error::from(io::ErrorKind::BrokenPipe))
-    }
-}
-
-impl Alloc for FailingStreams {
-    type A = Global;
-
-    fn alloc(&self) -> Global {
-        self.alloc
-    }
-}
-
 // Returns a clock that always reads 0.
 fn clock_at_zero(alloc: Global) -> ListClock {
     ListClock::new(Vec::new(alloc))
@@ -447,14 +412,14 @@ fn a_line_session_returns_its_status(rt: HostRuntime) {
     assert!(rt;
         ends_with(
             alloc,
-            FailingStreams { alloc },
+            ClosedStreams::new(alloc),
             STATUS_FAULT,
             "fault: read\n"
         )
     );
     assert!(rt;
         answer_input(
-            &FailingStreams { alloc },
+            &ClosedStreams::new(alloc),
             clock_at_zero(alloc),
             LINE,
             &table

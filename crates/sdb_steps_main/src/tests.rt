@@ -1,10 +1,9 @@
 //! Tests of command lines, and of the output and the exit status of each job.
 use crate::command::{Job, parse_job, print_check, run_job};
-use sdb_cli::terminal::{TerminalBuffer, argument_list};
+use sdb_cli::terminal::{ClosedStreams, TerminalBuffer, argument_list};
 use sdb_cli::{STATUS_FAULT, STATUS_OK, STATUS_USAGE, print_help_or_error};
 use sdb_dump::DumpFault;
 use std::alloc::Global;
-use std::fmt::Display;
 use std::io;
 use std::test::Fail;
 
@@ -80,40 +79,6 @@ fn a_refused_command_line_is_printed_on_standard_error(rt: HostRuntime) -> Resul
     Ok(())
 }
 
-// An input and an output on which each call fails.
-#[derive(Drop)]
-struct FailingStreams {
-    alloc: Global,
-}
-
-impl io::Read for FailingStreams {
-    fn read(&mut self, _buf: &mut [u8]) -> io::Result<usize> {
-        Err(io::Error::from(io::ErrorKind::BrokenPipe))
-    }
-}
-
-impl Print for FailingStreams {
-    fn print<D: Display + Drop>(&self, _value: D) -> io::Result<()> {
-        Err(io::Error::from(io::ErrorKind::BrokenPipe))
-    }
-
-    fn println<D: Display + Drop>(&self, _value: D) -> io::Result<()> {
-        Err(io::Error::from(io::ErrorKind::BrokenPipe))
-    }
-
-    fn write_all(&self, _bytes: &[u8]) -> io::Result<()> {
-        Err(io::Error::from(io::ErrorKind::BrokenPipe))
-    }
-}
-
-impl Alloc for FailingStreams {
-    type A = Global;
-
-    fn alloc(&self) -> Global {
-        self.alloc
-    }
-}
-
 const STEPS: &[u8] =
     br#"{"s":0,"do":"begin","c":"b","d":"1","src":"w","seq":1,"create":{"type":"json0","data":5}}
 {"s":0,"do":"commit","ms":7}
@@ -176,7 +141,7 @@ fn a_wrong_dump_is_refused_at_its_line(rt: HostRuntime) {
 fn a_failed_read_is_printed(rt: HostRuntime) {
     let alloc = rt.alloc();
     for job in [Job::Run, Job::Dump, Job::Check] {
-        let input = FailingStreams { alloc };
+        let input = ClosedStreams::new(alloc);
         assert!(rt; prints(alloc, job, input, "fault: read\n", STATUS_FAULT));
     }
 }
@@ -184,7 +149,7 @@ fn a_failed_read_is_printed(rt: HostRuntime) {
 #[test]
 fn a_failed_write_ends_with_status_1(rt: HostRuntime) {
     let alloc = rt.alloc();
-    let output = FailingStreams { alloc };
+    let output = ClosedStreams::new(alloc);
     assert!(rt; run_job(&output, Job::Run, STEPS) == STATUS_FAULT);
     assert!(rt; run_job(&output, Job::Dump, STEPS) == STATUS_FAULT);
     assert!(rt; run_job(&output, Job::Check, DUMP.as_bytes()) == STATUS_FAULT);
