@@ -1,5 +1,5 @@
 //! Reads of the chunks of a text.
-ghost use Rattle.std.specs.Prelude.{◌≡◌, is_some, length, min, nat_eq, string_bytes, IfOk, IfSome};
+ghost use Rattle.std.specs.Prelude.{◌≡◌, is_some, length, min, nat_eq, option_map, slice_get, string_bytes, IfOk, IfSome};
 ghost use Rattle.std.specs.List.{concat};
 ghost use Rattle.sdb_chunks.specs.Chunk.{items_of};
 ghost use Rattle.sdb_chunks.specs.Iter.{remaining_items};
@@ -63,4 +63,25 @@ pub(crate) fn iter_groups(groups: &Chunk<Chunk<RopeChunk>>) -> Iter<'_, RopeChun
     ensures { chunk_list_texts (remaining_items result) ≡ texts_of_groups (items_of groups.now) }
 {
     Iter::new(&[], groups.items())
+}
+
+/// Returns the text of the chunk at an index, or `None` if it is out of range.
+pub(crate) fn chunk_str(chunks: &[RopeChunk], index: usize) -> Option<&str>
+    ensures { option_map (λ s. s.now) result ≡ slice_get (chunk_list_texts chunks.now) index }
+{
+    Some(chunks.get(index)?.as_str())
+}
+
+/// Returns the text of the chunk at an index of all groups, or `None` if it is out of range.
+pub(crate) fn grouped_chunk_str(groups: &[Chunk<RopeChunk>], index: usize) -> Option<&str>
+    ensures { option_map (λ s. s.now) result ≡ slice_get (texts_of_groups groups.now) index }
+{
+    let mut left = index;
+    for group in groups {
+        if left < group.len() {
+            return chunk_str(group.items(), left);
+        }
+        left -= group.len();
+    }
+    None
 }

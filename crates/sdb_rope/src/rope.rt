@@ -1,5 +1,5 @@
 //! The rope.
-ghost use Rattle.std.specs.Prelude.{◌≡◌, ◌<◌, true, false, is_some, length, min, nat_eq, string_bytes};
+ghost use Rattle.std.specs.Prelude.{◌≡◌, ◌<◌, true, false, is_some, length, min, nat_eq, option_map, slice_get, string_bytes};
 ghost use Rattle.std.specs.Prelude.{IfOk, OnOk, OnErr, IfSome, IsTrue, IsFalse};
 ghost use Rattle.std.specs.List.{concat};
 ghost use Rattle.sdb_chunks.specs.Iter.{remaining_items};
@@ -14,7 +14,10 @@ use crate::chunk_list::{
 use crate::compare::{chunks_equal, chunks_equal_str};
 use crate::group_list::{insert_into_groups, remove_across_groups, remove_from_groups};
 use crate::insert::{MAX_CHUNK_LEN, split_chunks, split_chunks_with};
-use crate::read::{bytes_up_to, concat_chunks, iter_chunks, iter_groups, single_chunk_str};
+use crate::read::{
+    bytes_up_to, chunk_str, concat_chunks, grouped_chunk_str, iter_chunks, iter_groups,
+    single_chunk_str,
+};
 use crate::regroup::{MIN_GROUP, clone_shared_groups, freeze_groups, into_groups};
 use crate::rope_chunk::RopeChunk;
 use crate::shared_str::SharedStr;
@@ -121,6 +124,20 @@ impl Rope {
             RopeRepr::Flat(chars) => Some(chars.as_str()),
             RopeRepr::Chunks(chunks) => single_chunk_str(iter_chunks(chunks)),
             RopeRepr::Groups(groups) => single_chunk_str(iter_groups(groups)),
+        }
+    }
+
+    /// Returns the chunk at an index, or `None` if it is out of range.
+    pub fn chunk(&self, index: usize) -> Option<&str>
+        ensures { option_map (λ s. s.now) result ≡ slice_get (rope_texts self.now) index }
+    {
+        match &self.repr {
+            RopeRepr::Flat(chars) => match index {
+                0 => Some(chars.as_str()),
+                _ => None,
+            },
+            RopeRepr::Chunks(chunks) => chunk_str(chunks.items(), index),
+            RopeRepr::Groups(groups) => grouped_chunk_str(groups.items(), index),
         }
     }
 
