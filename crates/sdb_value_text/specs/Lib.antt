@@ -1,0 +1,3 @@
+pub mod ValueText
+pub mod Level
+pub mod Remaining
