@@ -1,3 +1,4 @@
 pub mod Answers
+pub mod DocumentParts
 pub mod View
 pub mod Wire

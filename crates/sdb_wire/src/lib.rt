@@ -7,6 +7,7 @@ mod fields;
 mod members;
 mod message;
 mod operations;
+mod parts;
 mod read;
 mod write;
 
@@ -19,6 +20,7 @@ pub use message::{
     Request,
 };
 pub use operations::{write_create, write_entry};
+pub use parts::{DocumentParts, document_parts};
 pub use read::{
     echo_of, empty_echo, parse_message, parse_tree, read_content, read_key, read_message,
 };

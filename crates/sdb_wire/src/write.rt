@@ -67,7 +67,7 @@ fn answer_bytes(alloc: Global, answer: &Answer<'_>) -> Result<Vec<u8>, AllocErro
 }
 
 // Returns the bytes written.
-fn bytes_of(out: Writer) -> Vec<u8>
+pub(crate) fn bytes_of(out: Writer) -> Vec<u8>
     requires { out.before ≡ [] }
     ensures { result.items ≡ print out.tokens }
 {
@@ -121,7 +121,7 @@ fn write_answer(answer: &Answer<'_>, out: &mut Writer) -> Result<(), AllocError>
 }
 
 // Writes the first members of an answer about a document.
-fn write_head(kind: &str, key: &Key, out: &mut Writer) -> Result<(), AllocError>
+pub(crate) fn write_head(kind: &str, key: &Key, out: &mut Writer) -> Result<(), AllocError>
     ensures tokens { OnOk result (out.new.tokens
         ≡ out.old.tokens ++ begin_object ∷ key_token (codes "a") ∷ string kind.now
         ∷ key_token (codes "c") ∷ string (plain_key key.now).collection
