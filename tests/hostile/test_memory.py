@@ -8,6 +8,9 @@ from test_all_at_once import HELD
 
 LONG_LOG, LISTERS, LIST_HELD = 200_000, 8, 1  # operations of a log, clients that list it, and megabytes for each
 LISTED = {"c": "long", "d": "1"}
+TEXT_LENGTH, PART = 20_000_000, 500_000  # bytes of the text of a document, and of an operation that adds to it
+READERS, DOCUMENT_HELD = 8, 1  # clients that request it, and megabytes for each
+REQUESTS = ({"a": "f"}, {"a": "s"}, {"a": "nf", "id": 1}, {"a": "nt", "id": 1})
 MESSAGES = attacks.DENSE + attacks.CREATES
 
 
@@ -62,3 +65,29 @@ def test_list_that_nobody_reads(proved_program):
         held = (server.megabytes("VmHWM") - base) / LISTERS
     print(f"{held:.2f} MB")
     assert held <= LIST_HELD
+
+
+def store_text(server):
+    with server.enter() as writer:
+        writer.ask({"a": "op", **LISTED, "src": "writer", "seq": 1, "create": {"type": "json0", "data": {"t": ""}}})
+        for at in range(0, TEXT_LENGTH, PART):
+            op = [{"p": ["t", at], "si": "y" * PART}]
+            answer = writer.ask({"a": "op", **LISTED, "src": "writer", "seq": at // PART + 2, "op": op})
+            assert "error" not in answer
+
+
+@pytest.mark.slow
+def test_document_that_nobody_reads(proved_program):
+    """Clients request a large document and read nothing until the server disconnects them."""
+    with Server(proved_program) as server:
+        store_text(server)
+        attacks.wait_for_sockets(server, 1)
+        base = server.megabytes()
+        server.restart_maximum()
+        readers = [server.enter() for _ in range(READERS)]
+        for number, reader in enumerate(readers):
+            reader.send(text({**REQUESTS[number % len(REQUESTS)], **LISTED}))
+        attacks.wait_for_sockets(server, 1)
+        held = (server.megabytes("VmHWM") - base) / READERS
+    print(f"{held:.2f} MB")
+    assert held <= DOCUMENT_HELD

@@ -3,7 +3,7 @@ import select
 
 import pytest
 
-from support.frames import text
+from support.frames import frame, text
 from support.server import Server
 
 LONG = {"c": "board", "d": "long"}
@@ -12,6 +12,7 @@ EDIT = [{"p": ["t", 0], "si": "a"}] * 256
 ENTRIES = 8
 EXCHANGES = 5
 TURN = 64  # messages that are answered in one turn
+LARGE = 80_000  # bytes: a client with a message of this length waits for one of four places
 
 
 @pytest.fixture
@@ -91,3 +92,36 @@ def test_a_client_with_two_long_turns_in_a_row(one_loop):
                 found.add("acknowledgement")
             if message["d"] == "short":
                 found.add("operation")
+
+
+def large_message(number):
+    data = {"a": "op", "c": "board", "d": str(number), "v": 0, "seq": 1, "create": {"type": "json0", "data": "x" * LARGE}}
+    return text(data)
+
+
+def test_clients_with_large_messages_are_served_in_turn(one_loop):
+    """Twelve clients send large messages at once. Each is answered, and so is a client with small ones meanwhile."""
+    others = [one_loop.enter() for _ in range(12)]
+    messages = [large_message(number) for number in range(len(others))]
+    with one_loop.enter() as small:
+        for other, message in zip(others, messages):
+            other.send(message[:-1])
+        for other, message in zip(others, messages):
+            other.send(message[-1:])
+        for _ in range(EXCHANGES):
+            assert small.ask({"a": "f", **SHORT})["a"] == "f"
+        for number, other in enumerate(others):
+            assert other.message() == {"a": "op", "c": "board", "d": str(number), "v": 0, "seq": 1, "src": f"s{number + 1}"}
+    for other in others:
+        other.tear()
+
+
+def test_a_large_message_in_fragments_is_answered(one_loop):
+    """Each fragment is small, and the message is large. The client then sends a small one."""
+    with one_loop.enter() as connection:
+        data = b'{"a":"op","c":"board","d":"1","v":0,"seq":1,"create":{"type":"json0","data":"' + b"x" * LARGE + b'"}}'
+        parts = [data[start : start + 9_000] for start in range(0, len(data), 9_000)]
+        for number, part in enumerate(parts):
+            connection.send(frame(part, 0 if number else 1, last=number == len(parts) - 1))
+        assert connection.message() == {"a": "op", "c": "board", "d": "1", "v": 0, "seq": 1, "src": "s1"}
+        assert connection.ask({"a": "f", **SHORT})["a"] == "f"

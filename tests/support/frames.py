@@ -6,7 +6,7 @@ import socket
 import struct
 import time
 
-TEXT, BINARY, CLOSE, PING, PONG = 1, 2, 8, 9, 10
+CONTINUATION, TEXT, BINARY, CLOSE, PING, PONG = 0, 1, 2, 8, 9, 10
 NO_STATUS = None  # of a connection that is closed without a close frame
 PATIENCE = 300  # seconds for an answer: a bound for tests that would hang
 TRY_AGAIN = 1013
@@ -57,6 +57,7 @@ class Connection:
         self.socket = socket.create_connection(address, patience)
         self.socket.setsockopt(socket.IPPROTO_TCP, socket.TCP_NODELAY, 1)
         self.received = b""
+        self.kind, self.fragments = None, []  # of a message of which the last fragment wasn't read
 
     def __enter__(self):
         return self
@@ -99,13 +100,27 @@ class Connection:
             raise Fault(f"the first message is a frame {kind} {payload[:40]}")
         return self
 
-    def frame(self):
-        """Returns the kind and the payload of the next frame. The server fragments none."""
+    def fragment(self):
+        """Returns whether the next frame is the last one of its message, its kind and its payload."""
         first, second = self.read(2)
         length = second & 0x7F
         if length > 125:
             length = int.from_bytes(self.read(2 if length == 126 else 8), "big")
-        return first & 0x0F, self.read(length)
+        return bool(first & 0x80), first & 0x0F, self.read(length)
+
+    def frame(self):
+        """Returns the kind and the payload of the next control frame or message. Fragments are joined."""
+        while True:
+            is_last, kind, payload = self.fragment()
+            if kind >= CLOSE:
+                return kind, payload
+            if (kind == CONTINUATION) != bool(self.fragments):
+                raise Fault(f"a frame {kind} is sent after {len(self.fragments)} fragments")
+            self.kind = self.kind if self.fragments else kind
+            self.fragments.append(payload)
+            if is_last:
+                whole, self.fragments = b"".join(self.fragments), []
+                return self.kind, whole
 
     def message(self):
         """Returns the next text as JSON."""

@@ -1,4 +1,4 @@
-mod ValueSend
+pub mod ValueSend
 pub mod SendSync
 pub mod CloseLemmas
 pub mod GatherLemmas

@@ -9,8 +9,13 @@ use Rattle.mio.specs.contracts.waker.Waker as Waker
 use Rattle.mio.specs.contracts.net.listener.TcpListener as TcpListener
 use Rattle.mio.specs.contracts.net.stream.TcpStream as TcpStream
 use Rattle.sdb_backend.proofs.SendSync.{Backend-send, Backend-sync, Pass-send}
+use Rattle.sdb_backend.proofs.ValueSend.{Json-send, Json-sync}
+use Rattle.sdb_value_text.specs.contracts.level.Level as Level
+use Rattle.sdb_value_text.specs.contracts.value_text.ValueText as ValueText
+use Rattle.sdb_wire.specs.contracts.parts.DocumentParts as DocumentParts
 use Rattle.sdb_progress.specs.contracts.progress.SaveProgress as SaveProgress
 use Rattle.sdb_event_loop.specs.declared.loop_pass.PassBrand as brand
+use Rattle.sdb_event_loop.specs.contracts.large_turns.LargeTurns as LargeTurns
 use Rattle.sdb_event_loop.specs.contracts.loop_port.LoopPort as LoopPort
 use Rattle.sdb_event_loop.specs.contracts.metrics.Metrics as Metrics
 use Rattle.sdb_event_loop.specs.contracts.loop_server.LoopServer as LoopServer
@@ -23,6 +28,7 @@ use Rattle.sdb_event_loop.specs.contracts.connection_slot.ConnectionSlot as Conn
 use Rattle.sdb_event_loop.specs.contracts.turn.EndedTurn as EndedTurn
 use Rattle.sdb_event_loop.specs.contracts.turn.TurnEvents as TurnEvents
 use Rattle.sdb_event_loop.specs.contracts.pass_supply.PassSupply as PassSupply
+use Rattle.sdb_event_loop.specs.contracts.pending_document.PendingDocument as PendingDocument
 use Rattle.sdb_event_loop.specs.contracts.loop_context.LoopContext as LoopContext
 use Rattle.sdb_event_loop.specs.contracts.loop_buffers.LoopBuffers as LoopBuffers
 use Rattle.sdb_event_loop.specs.contracts.event_loop.EventLoop as EventLoop
@@ -48,6 +54,12 @@ LoopPort-send = declared_send LoopPort.the_type (search (crosses, sendable, Wake
 LoopPort-sync : IsSync LoopPort.the_row
 LoopPort-sync = declared_sync LoopPort.the_type (search (crosses, sendable, Waker-send) depth 12)
 
+LargeTurns-send : IsSend LargeTurns.the_row
+LargeTurns-send = declared_send LargeTurns.the_type (search (crosses, sendable) depth 20)
+
+LargeTurns-sync : IsSync LargeTurns.the_row
+LargeTurns-sync = declared_sync LargeTurns.the_type (search (crosses, sendable) depth 20)
+
 Metrics-send : IsSend Metrics.the_row
 Metrics-send = declared_send Metrics.the_type (search (crosses, sendable) depth 20)
 
@@ -62,16 +74,28 @@ SaveProgress-sync = declared_sync SaveProgress.the_type (search (sendable, cross
 
 module _ (R P : RattleType) where
   pub LoopServer-send : IsSend R → IsSend P → IsSend (LoopServer.the_row R P)
-  LoopServer-send s p = declared_send (LoopServer.the_type R P) (Backend-send R s, (as_row_send (row_field P) p, search (crosses, sendable, SaveProgress-send, SaveProgress-sync, LoopPort-send, Metrics-send) depth 20))
+  LoopServer-send s p = declared_send (LoopServer.the_type R P) (Backend-send R s, (as_row_send (row_field P) p, search (crosses, sendable, SaveProgress-send, SaveProgress-sync, LoopPort-send, LargeTurns-send, Metrics-send) depth 24))
 
   pub LoopServer-sync : IsSync R → IsSync P → IsSync (LoopServer.the_row R P)
-  LoopServer-sync y q = declared_sync (LoopServer.the_type R P) (Backend-sync R y, (as_row_sync (row_field P) q, search (crosses, sendable, SaveProgress-send, SaveProgress-sync, LoopPort-sync, Metrics-sync) depth 20))
+  LoopServer-sync y q = declared_sync (LoopServer.the_type R P) (Backend-sync R y, (as_row_sync (row_field P) q, search (crosses, sendable, SaveProgress-send, SaveProgress-sync, LoopPort-sync, LargeTurns-sync, Metrics-sync) depth 24))
 
 Session-send : IsSend Session.the_row
 Session-send = declared_send Session.the_type (search (sendable, crosses, maps.crosses) depth 40)
 
 Listing-send : IsSend Listing.the_row
 Listing-send = search (sendable, crosses, maps.crosses) depth 40
+
+Level-send : IsSend Level.the_row
+Level-send = search (sendable, crosses, maps.crosses, Json-send, Json-sync) depth 60 fits 100000
+
+ValueText-send : IsSend ValueText.the_row
+ValueText-send = declared_send ValueText.the_type (search (sendable, crosses, Level-send) depth 40)
+
+DocumentParts-send : IsSend DocumentParts.the_row
+DocumentParts-send = declared_send DocumentParts.the_type (search (sendable, crosses, ValueText-send) depth 40)
+
+PendingDocument-send : IsSend PendingDocument.the_row
+PendingDocument-send = declared_send PendingDocument.the_type (search (sendable, crosses, DocumentParts-send) depth 40)
 
 TcpStream-send : IsSend TcpStream.the_row
 TcpStream-send = search (sendable, crosses) depth 20
@@ -96,7 +120,7 @@ module _ (B : RattleType) (g : brand.Ghosts B.Denot) where
   LoopPass-send b = declared_send (LoopPass.the_type B g) (search (sendable, Pass-send) depth 20)
 
   Connection-send : IsSend B → IsSend (Connection.the_row B g)
-  Connection-send b = declared_send (Connection.the_type B g) (search (sendable, crosses, Link-send, LoopPass-send, Session-send, Listing-send) depth 60)
+  Connection-send b = declared_send (Connection.the_type B g) (search (sendable, crosses, Link-send, LoopPass-send, Session-send, Listing-send, PendingDocument-send) depth 60)
 
   ConnectionSlot-send : IsSend B → IsSend (ConnectionSlot.the_row B g)
   ConnectionSlot-send b =

@@ -7,11 +7,13 @@ use crate::closing::{ClosingConnection, Progress, write_close};
 use crate::deadlines::{Deadlines, DueAction};
 use crate::document_group::DocumentGroup;
 use crate::frame_sink::FrameSink;
+use crate::large_turns::LARGE_INPUT;
 use crate::link::Link;
 use crate::log::SessionReport;
 use crate::loop_buffers::{LoopOutput, LoopTime};
 use crate::loop_context::LoopContext;
 use crate::loop_pass::{LoopPass, PassBrand};
+use crate::pending_document::PendingDocument;
 use crate::session_end::{SessionEnd, configuration};
 use mio::net::TcpStream as MioStream;
 use sdb_progress::SaveProgress;
@@ -32,8 +34,10 @@ pub(crate) struct Connection<B: PassBrand> {
     pub(crate) partial: Vec<u8>,
     // Whether they may begin with a complete frame.
     pub(crate) has_frames: bool,
-    // Whether a fragment of a message was received, but not the last one.
+    // Whether a fragment of a message was received, but not the last one, and the length in bytes of
+    // the frames of such a message.
     pub(crate) is_in_message: bool,
+    pub(crate) fragment_bytes: usize,
     pub(crate) deadlines: Deadlines,
     pub(crate) groups: Vec<DocumentGroup>,
     pub(crate) messages: u64,
@@ -41,7 +45,9 @@ pub(crate) struct Connection<B: PassBrand> {
     // What is left of the listing that answers the last message. Until it is sent, no message is
     // answered and no queue is read.
     pub(crate) listing: Option<Listing>,
-    // Whether the queues weren't read because of a listing.
+    // Likewise what is left of the document that answers the last message.
+    pub(crate) document: Option<Box<PendingDocument>>,
+    // Whether the queues weren't read because of a listing or a document.
     pub(crate) is_deferred: bool,
     /// Whether the loop reads from it next.
     pub(crate) is_listed: bool,
@@ -104,11 +110,13 @@ impl<B: PassBrand> Connection<B> {
             partial: Vec::new(alloc),
             has_frames: false,
             is_in_message: false,
+            fragment_bytes: 0,
             deadlines: Deadlines::new(time.second),
             groups: Vec::new(alloc),
             messages: 0,
             operations: 0,
             listing: None,
+            document: None,
             is_deferred: false,
             is_listed: false,
             is_lagging: false,
@@ -129,8 +137,15 @@ impl<B: PassBrand> Connection<B> {
     {
         let mut sink = FrameSink::new(&mut self.websocket, &mut output.bytes);
         let opened = self.session.opening_to(&mut sink);
+        let FrameSink { document, .. } = sink;
+        self.document = document;
         opened?;
         self.send(time, output)
+    }
+
+    /// Returns whether a turn of the client is a large one.
+    pub(crate) fn has_large_input(&self) -> bool {
+        self.partial.len().saturating_add(self.fragment_bytes) >= LARGE_INPUT
     }
 
     /// Records that input waits, or that the client has closed its sending side.
@@ -192,7 +207,7 @@ impl<B: PassBrand> Connection<B> {
         if self.link.is_held() && output.is_save_failing() {
             return Err(SessionEnd::Unsaved);
         }
-        let is_pending = self.link.has_pending_output();
+        let is_pending = self.link.has_pending_output() || self.is_answering();
         match self.deadlines.next_action(time.second, is_pending) {
             DueAction::Nothing => Ok(()),
             DueAction::End(end) => Err(end),
@@ -204,11 +219,17 @@ impl<B: PassBrand> Connection<B> {
         }
     }
 
-    /// Returns whether the queues weren't read because of a listing that has ended, and forgets it.
+    /// Returns whether a part of the answer to the last message isn't written.
+    pub(crate) fn is_answering(&self) -> bool {
+        self.listing.is_some() || self.document.is_some()
+    }
+
+    /// Returns whether the queues weren't read because of a listing or a document that has ended, and
+    /// forgets it.
     pub(crate) fn take_deferral(&mut self) -> bool
         ensures { pass_number self.new.pass.pass ≡ pass_number self.old.pass.pass }
     {
-        if self.listing.is_some() {
+        if self.is_answering() {
             return false;
         }
         std::mem::replace(&mut self.is_deferred, false)
@@ -293,7 +314,10 @@ impl<B: PassBrand> Connection<B> {
     {
         let mut websocket = WebSocketContext::new(self.alloc, Role::Server, configuration());
         let mut sink = FrameSink::new(&mut websocket, &mut output.bytes);
-        if self.session.refuse_unreadable_to(&mut sink).is_err() {
+        let refused = self.session.refuse_unreadable_to(&mut sink);
+        let FrameSink { document, .. } = sink;
+        self.document = document;
+        if refused.is_err() {
             return false;
         }
         write_close(&mut websocket, CloseCode::Size, &mut output.bytes)

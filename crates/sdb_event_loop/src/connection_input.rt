@@ -98,7 +98,16 @@ impl<B: PassBrand> Connection<B> {
     {
         self.messages = self.messages.saturating_add(1);
         self.is_in_message = false;
+        self.fragment_bytes = 0;
         self.deadlines.end_message();
+    }
+
+    // Records a frame of a message that isn't complete.
+    fn record_fragment(&mut self, len: usize)
+        ensures { pass_number self.new.pass.pass ≡ pass_number self.old.pass.pass }
+    {
+        self.is_in_message = true;
+        self.fragment_bytes = self.fragment_bytes.saturating_add(len);
     }
 
     fn answer_binary(&mut self, output: &mut LoopOutput) -> Result<(), SessionEnd>
@@ -107,7 +116,12 @@ impl<B: PassBrand> Connection<B> {
         self.record_message();
         let mut sink = FrameSink::new(&mut self.websocket, &mut output.bytes);
         let answered = self.session.refuse_unreadable_to(&mut sink);
-        let FrameSink { refused, .. } = sink;
+        let FrameSink {
+            refused,
+            document,
+            ..
+        } = sink;
+        self.document = document;
         output.record_message(None, refused);
         answered?;
         Ok(())
@@ -128,6 +142,9 @@ impl<B: PassBrand> Connection<B> {
         if self.link.has_pending_output() {
             return Ok(Progress::Idle);
         }
+        if self.document.is_some() {
+            return self.serve_document(time, &mut buffers.output);
+        }
         if self.listing.is_some() {
             return self.serve_listing(context, time, &mut buffers.output);
         }
@@ -137,14 +154,14 @@ impl<B: PassBrand> Connection<B> {
         self.release_input(used, is_own, buffers)?;
         self.record_partial(time);
         self.send(time, &mut buffers.output)?;
-        if self.listing.is_some() || self.has_frames || self.link.is_readable() {
+        if self.is_answering() || self.has_frames || self.link.is_readable() {
             return Ok(Progress::More);
         }
         Ok(Progress::Idle)
     }
 
-    // Answers the complete frames of the input, up to the limits of a turn or to a listing. Returns
-    // the number of bytes that they have.
+    // Answers the complete frames of the input, up to the limits of a turn, to a listing or to a large
+    // document. Returns the number of bytes that they have.
     fn answer_frames<R: Wait + Drop, P: Policy + Drop>(
         &mut self,
         context: &LoopContext<R, P, B>,
@@ -178,7 +195,7 @@ impl<B: PassBrand> Connection<B> {
                 self.has_frames = false;
                 return Ok(used);
             }
-            if self.listing.is_some() || output.bytes.len() >= OUTPUT_BOUND {
+            if self.is_answering() || output.bytes.len() >= OUTPUT_BOUND {
                 return Ok(used);
             }
         }
@@ -207,7 +224,7 @@ impl<B: PassBrand> Connection<B> {
         let Step { consumed, message } = step;
         match message {
             Some(received) => self.answer_message(received.message(bytes), context, time, output)?,
-            None => self.is_in_message = true,
+            None => self.record_fragment(consumed),
         }
         Ok(consumed)
     }
@@ -230,7 +247,8 @@ impl<B: PassBrand> Connection<B> {
         }
     }
 
-    // Handles a text message at the time of the pass. A listing is left after its first entries.
+    // Handles a text message at the time of the pass. A listing is left after its first entries, and a
+    // large document before its first part.
     fn answer_text<R: Wait + Drop, P: Policy + Drop>(
         &mut self,
         text: &str,
@@ -249,8 +267,10 @@ impl<B: PassBrand> Connection<B> {
             stored,
             subscribed,
             refused,
+            document,
             ..
         } = sink;
+        self.document = document;
         self.operations = self.operations.saturating_add(u64::from(stored.is_some()));
         output.record_message(stored, refused);
         context.notify(stored);

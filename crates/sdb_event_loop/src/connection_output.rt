@@ -1,5 +1,6 @@
-//! Sending listings and stored operations to clients.
+//! Sending listings, large documents and stored operations to clients.
 ghost use Rattle.std.specs.Prelude.{◌≡◌};
+ghost use Rattle.sdb_backend.specs.PassModel.{pass_number};
 ghost use Rattle.sdb_event_loop.specs.PassModel.{KeepsPass};
 
 use crate::closing::Progress;
@@ -22,6 +23,33 @@ const TAKES_PER_TURN: usize = 8;
 const PARTS_PER_TURN: usize = 8;
 
 impl<B: PassBrand> Connection<B> {
+    /// Sends the next part of the document.
+    pub(crate) fn serve_document(
+        &mut self,
+        time: LoopTime,
+        output: &mut LoopOutput,
+    ) -> Result<Progress, SessionEnd>
+        ensures { pass_number self.new.pass.pass ≡ pass_number self.old.pass.pass }
+    {
+        self.continue_document(output)?;
+        self.send(time, output)?;
+        Ok(Progress::More)
+    }
+
+    // Writes the next part of the document, and keeps what is left.
+    fn continue_document(&mut self, output: &mut LoopOutput) -> Result<(), SessionEnd>
+        ensures { pass_number self.new.pass.pass ≡ pass_number self.old.pass.pass }
+    {
+        let Some(mut document) = self.document.take() else {
+            return Ok(());
+        };
+        let is_last = document.write_frame(&mut output.bytes)?;
+        if !is_last {
+            self.document = Some(document);
+        }
+        Ok(())
+    }
+
     /// Sends the next parts of the listing, up to the limits of a turn.
     pub(crate) fn serve_listing<R: Wait + Drop, P: Policy + Drop>(
         &mut self,
@@ -68,7 +96,12 @@ impl<B: PassBrand> Connection<B> {
         let continued = self
             .pass
             .continue_listing(context, &mut self.session, listing, &mut sink);
-        let FrameSink { subscribed, .. } = sink;
+        let FrameSink {
+            subscribed,
+            document,
+            ..
+        } = sink;
+        self.document = document;
         output.record_subscription(subscribed)?;
         self.listing = continued?;
         Ok(())
@@ -84,7 +117,7 @@ impl<B: PassBrand> Connection<B> {
     ) -> Result<Progress, SessionEnd>
         ensures { let b = context.now.state.value.backend in KeepsPass b self.old.pass.pass b self.new.pass.pass }
     {
-        if self.listing.is_some() {
+        if self.is_answering() {
             self.is_deferred = true;
             return Ok(Progress::Idle);
         }

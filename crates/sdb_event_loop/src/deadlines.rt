@@ -23,6 +23,8 @@ pub(crate) struct Deadlines {
     message_start: Option<u64>,
     // The second since which output is held. Meanwhile nothing is due.
     hold_start: Option<u64>,
+    // The second since which the client waits for the place of a large turn. Nothing is due then.
+    wait_start: Option<u64>,
     is_pinged: bool,
 }
 
@@ -42,6 +44,7 @@ impl Deadlines {
             last_write: second,
             message_start: None,
             hold_start: None,
+            wait_start: None,
             is_pinged: false,
         }
     }
@@ -79,18 +82,36 @@ impl Deadlines {
     /// Records that no output is held. The time of the hold doesn't count, since the client wasn't
     /// read from.
     pub(crate) fn end_hold(&mut self, second: u64) {
-        let start = self.hold_start.take().unwrap_or(second);
-        let held = second.saturating_sub(start);
-        self.last_message = self.last_message.saturating_add(held);
-        if let Some(start) = self.message_start {
-            self.message_start = Some(start.saturating_add(held));
-        }
+        let start = self.hold_start.take();
+        self.exclude(start, second);
         self.last_write = second;
+    }
+
+    /// Records that the client waits for a place.
+    pub(crate) fn begin_wait(&mut self, second: u64) {
+        if self.wait_start.is_none() {
+            self.wait_start = Some(second);
+        }
+    }
+
+    /// Records that the client doesn't wait for a place. The time of the wait doesn't count.
+    pub(crate) fn end_wait(&mut self, second: u64) {
+        let start = self.wait_start.take();
+        self.exclude(start, second);
+    }
+
+    // Makes the time from this second on not count.
+    fn exclude(&mut self, start: Option<u64>, second: u64) {
+        let excluded = second.saturating_sub(start.unwrap_or(second));
+        self.last_message = self.last_message.saturating_add(excluded);
+        if let Some(start) = self.message_start {
+            self.message_start = Some(start.saturating_add(excluded));
+        }
     }
 
     /// Returns what is due. A ping is due once for each silence.
     pub(crate) fn next_action(&mut self, second: u64, has_pending_output: bool) -> DueAction {
-        if self.hold_start.is_some() {
+        if self.hold_start.is_some() || self.wait_start.is_some() {
             return DueAction::Nothing;
         }
         if has_pending_output {

@@ -51,6 +51,8 @@ pub(crate) struct EventLoop<R, P, B: PassBrand> {
     // The keys of connections that are read from next, whose queues are read next, and that wait for
     // a pass.
     pub(crate) ready: VecDeque<usize>,
+    // The keys of connections that wait for the place of a large turn.
+    pub(crate) awaiting_place: VecDeque<usize>,
     pub(crate) lagging: Vec<usize>,
     pub(crate) awaiting: Vec<usize>,
     // The keys of connections whose output is held, and the number of this list, 1 or more. A
@@ -95,6 +97,7 @@ impl<R: Clock, P: Policy + Drop, B: PassBrand> EventLoop<R, P, B> {
             slots: Slab::new(alloc),
             subscribers,
             ready: VecDeque::new(alloc),
+            awaiting_place: VecDeque::new(alloc),
             lagging: Vec::new(alloc),
             awaiting: Vec::new(alloc),
             held: Vec::new(alloc),
@@ -160,6 +163,7 @@ impl<R: Net + Wait + Clock + Eprint + Copy + Drop, P: Policy + Drop, B: PassBran
             std::thread::sleep(&self.context.rt, Duration::from_millis(PAUSE_MS));
         }
         self.end_turns(slot);
+        self.list_awaiting_place();
         self.release_held();
         self.accept_next(poll.registry());
         self.start_sessions();
@@ -192,7 +196,11 @@ impl<R: Net + Wait + Clock + Eprint + Copy + Drop, P: Policy + Drop, B: PassBran
     fn has_work(&self) -> bool {
         let begins_end = self.ending_since.is_none() && self.context.state.is_ending();
         let has_listed = !self.ready.is_empty() || !self.lagging.is_empty();
-        begins_end || has_listed || self.can_release() || self.can_start_session()
+        begins_end
+            || has_listed
+            || self.can_begin_large_turn()
+            || self.can_release()
+            || self.can_start_session()
     }
 
     fn longest_wait(&self) -> u64 {

@@ -1,5 +1,6 @@
 //! A sink that writes answers as frames to an output buffer.
 use crate::document_group::DocumentGroup;
+use crate::pending_document::PendingDocument;
 use sdb_oplog::Code;
 use sdb_session::AnswerSink;
 use sdb_wire::{Answer, reply_text};
@@ -8,7 +9,7 @@ use websocket::error::Error;
 use websocket::protocol::{Message, NoMask, WebSocketContext};
 
 /// A sink that appends each answer to an output buffer as one frame, and records which documents it
-/// names and why a message is refused.
+/// names and why a message is refused. An answer with a large document is kept, to be sent in parts.
 #[derive(Drop)]
 pub(crate) struct FrameSink<'a> {
     websocket: &'a mut WebSocketContext,
@@ -19,6 +20,8 @@ pub(crate) struct FrameSink<'a> {
     pub(crate) subscribed: Option<DocumentGroup>,
     /// The code of a refusal.
     pub(crate) refused: Option<Code>,
+    /// The answer with a large document. It is the last answer to its message.
+    pub(crate) document: Option<Box<PendingDocument>>,
 }
 
 impl<'a> FrameSink<'a> {
@@ -33,6 +36,7 @@ impl<'a> FrameSink<'a> {
             stored: None,
             subscribed: None,
             refused: None,
+            document: None,
         }
     }
 
@@ -63,6 +67,10 @@ impl AnswerSink for FrameSink<'_> {
 
     fn write(&mut self, alloc: Global, answer: &Answer<'_>) -> Result<(), AllocError> {
         self.record(answer);
+        if let Some(document) = PendingDocument::of(alloc, answer)? {
+            self.document = Some(document);
+            return Ok(());
+        }
         let text = reply_text(alloc, answer)?;
         let message = Message::Text(text.as_str());
         match self.websocket.write(message, self.output, &mut NoMask) {

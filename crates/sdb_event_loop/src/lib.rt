@@ -7,6 +7,9 @@
 //! a thread answers a client it leaves the loop in its slot, and if the answer takes longer than some
 //! milliseconds, a spare thread continues the loop. There are 32 spare threads. While more clients
 //! than these are answered for long, their loops wait.
+//!
+//! Parsing takes up to 170 times the length of a message. So at most four clients with 64 KiB or more
+//! of unanswered input are served at once. Others wait, without holding up a loop.
 #![tactic(auto)]
 
 mod accepting;
@@ -23,6 +26,7 @@ mod event_loop;
 mod frame_sink;
 mod handshake;
 mod holding;
+mod large_turns;
 mod link;
 mod listen;
 mod log;
@@ -36,6 +40,7 @@ mod loop_slots;
 mod loop_threads;
 mod metrics;
 mod pass_supply;
+mod pending_document;
 mod pending_output;
 mod plain_request;
 mod polled_loop;

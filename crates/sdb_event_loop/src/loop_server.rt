@@ -5,6 +5,7 @@ ghost use Rattle.sdb_backend.specs.declared.pass.Host.{Host as HostState};
 ghost use Rattle.sdb_event_loop.specs.LoopModel.{IsHostOfLoops, loops_backend};
 
 use crate::document_group::DocumentGroup;
+use crate::large_turns::{LargeTurn, LargeTurns};
 use crate::loop_port::LoopPort;
 use crate::metrics::Metrics;
 use crate::plain_request::ServerStatus;
@@ -65,6 +66,7 @@ pub struct LoopServer<R, P> {
     admitted_count: AtomicU64,
     ended_count: AtomicU64,
     pub(crate) metrics: Metrics,
+    pub(crate) large_turns: LargeTurns,
     ports: Vec<LoopPort>,
     // The thread that supplies passes parks here.
     supplier: Parker,
@@ -117,6 +119,7 @@ impl<R: Drop, P: Drop> LoopServer<R, P> {
             admitted_count: AtomicU64::new(0),
             ended_count: AtomicU64::new(0),
             metrics: Metrics::new(),
+            large_turns: LargeTurns::new(),
             ports,
             supplier: Parker::new(),
         })
@@ -412,6 +415,12 @@ impl<R, P> LoopServer<R, P> {
         if let Some(port) = self.port(number) {
             port.wake(rt);
         }
+    }
+
+    /// Ends a large turn. Clients that wait for its place are served next.
+    pub(crate) fn end_large_turn<W: Wait>(&self, rt: &W, turn: LargeTurn) {
+        self.large_turns.end(turn);
+        self.wake_all(rt);
     }
 
     /// Counts a connection less. If there was no room for more, the loop whose turn it is accepts

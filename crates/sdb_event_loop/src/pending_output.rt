@@ -4,7 +4,8 @@ use std::io;
 use std::io::{ErrorKind, Write};
 
 // Maximum number of unsent bytes of one client. A client isn't read from while it has any, so they
-// are at most the answers of one turn: a document of some megabytes, or the listing of a long log.
+// are at most the answers of one turn, as the entries that a submission missed. A listing and a large
+// document are sent in parts.
 const PENDING_OUTPUT_LIMIT: usize = 1 << 28;
 
 /// Bytes that the socket hasn't taken. It holds no memory while it is empty.

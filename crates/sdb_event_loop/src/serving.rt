@@ -2,6 +2,7 @@
 use crate::closing::Progress;
 use crate::connection_slot::ConnectionSlot;
 use crate::event_loop::EventLoop;
+use crate::large_turns::{LARGE_TURN_LIMIT, LargeTurn};
 use crate::loop_pass::PassBrand;
 use crate::loop_slot::LoopSlot;
 use crate::session_end::SessionEnd;
@@ -30,12 +31,66 @@ impl<R: Net + Wait + Clock + Eprint + Copy + Drop, P: Policy + Drop, B: PassBran
                 }
                 None
             }
-            slot => {
-                let mut connection = slot.begin_turn()?;
-                connection.is_listed = false;
-                self.turn_count = self.turn_count.saturating_add(1);
-                Some(Turn { key, connection })
+            ConnectionSlot::Served(connection) if connection.has_large_input() => {
+                self.begin_large_turn(key)
             }
+            _ => self.begin_turn(key, None),
+        }
+    }
+
+    fn begin_turn(&mut self, key: usize, large: Option<LargeTurn>) -> Option<Turn<B>> {
+        let mut connection = self.slots.get_mut(key)?.begin_turn()?;
+        connection.is_listed = false;
+        connection.deadlines.end_wait(self.time.second);
+        self.turn_count = self.turn_count.saturating_add(1);
+        Some(Turn {
+            key,
+            connection,
+            large,
+        })
+    }
+
+    // Begins a large turn if there is a place for it. Else the client waits.
+    fn begin_large_turn(&mut self, key: usize) -> Option<Turn<B>> {
+        match self.context.state.large_turns.begin() {
+            Some(place) => self.begin_turn(key, Some(place)),
+            None => {
+                self.await_place(key);
+                None
+            }
+        }
+    }
+
+    // Lets a client wait for a place. It stays listed meanwhile.
+    fn await_place(&mut self, key: usize) {
+        let second = self.time.second;
+        if let Some(ConnectionSlot::Served(connection)) = self.slots.get_mut(key) {
+            connection.deadlines.begin_wait(second);
+        }
+        if self.awaiting_place.push_back(key).is_err() {
+            // Can't fail: the client was just removed from this list.
+            let _ = self.ready.push_back(key);
+        }
+    }
+
+    /// Returns whether a client and a place wait for each other.
+    pub(crate) fn can_begin_large_turn(&self) -> bool {
+        !self.awaiting_place.is_empty() && self.context.state.large_turns.has_place()
+    }
+
+    /// Lists the next clients that wait for a place, if one is free.
+    pub(crate) fn list_awaiting_place(&mut self) {
+        if !self.can_begin_large_turn() {
+            return;
+        }
+        for _ in 0..LARGE_TURN_LIMIT {
+            let Some(key) = self.awaiting_place.pop_front() else {
+                return;
+            };
+            if let Some(ConnectionSlot::Served(connection)) = self.slots.get_mut(key) {
+                connection.is_listed = false;
+            }
+            self.list_ready(key);
         }
     }
 
@@ -77,8 +132,8 @@ impl<R: Net + Wait + Clock + Eprint + Copy + Drop, P: Policy + Drop, B: PassBran
         }
     }
 
-    // Lists the connection for what is next: more input or a listing, or queues that weren't read
-    // while a listing was sent.
+    // Lists the connection for what is next: more input, a listing or a document, or queues that
+    // weren't read while one of these was sent.
     fn list_next(&mut self, key: usize, progress: Progress) {
         if progress == Progress::More {
             self.list_ready(key);

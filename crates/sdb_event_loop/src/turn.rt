@@ -2,6 +2,7 @@
 use crate::closing::Progress;
 use crate::connection::Connection;
 use crate::document_group::DocumentGroup;
+use crate::large_turns::LargeTurn;
 use crate::loop_buffers::{LoopBuffers, LoopTime};
 use crate::loop_context::LoopContext;
 use crate::loop_pass::PassBrand;
@@ -15,6 +16,8 @@ use std::sync::Wait;
 pub(crate) struct Turn<B: PassBrand> {
     pub(crate) key: usize,
     pub(crate) connection: Box<Connection<B>>,
+    /// Its place, if it is a large one.
+    pub(crate) large: Option<LargeTurn>,
 }
 
 /// A turn that has ended.
@@ -71,6 +74,7 @@ impl<B: PassBrand> Turn<B> {
         let Turn {
             key,
             mut connection,
+            large,
         } = self;
         let outcome = connection.serve(context, time, buffers);
         if outcome.is_err() {
@@ -79,6 +83,9 @@ impl<B: PassBrand> Turn<B> {
         context.state.metrics.add(&mut buffers.output.tally);
         let subscribed = buffers.output.take_subscribed(alloc);
         buffers.output.free_large(alloc);
+        if let Some(large) = large {
+            context.state.end_large_turn(&context.rt, large);
+        }
         EndedTurn {
             key,
             connection,

@@ -8,5 +8,5 @@ returns-in-Err g c =
 
 pub returns-in-None : goal.returns-in-None
 returns-in-None g c =
-    let p = c.args.self.now.pass in
-    (refl, c.args.context.now.names_backend.0 p.pass p.belongs, refl)
+    let p = c.record_fragment.new.self.pass in
+    (refl, c.args.context.now.names_backend.0 p.pass p.belongs, c.record_fragment.ensures)

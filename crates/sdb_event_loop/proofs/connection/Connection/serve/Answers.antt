@@ -1,6 +1,11 @@
 use Rattle.std.proofs.Common.{refl, ◌∙◌}
 use Rattle.sdb_event_loop.proofs.connection.Connection.serve.Goals as goal
 
+pub returns-then-is_some : goal.returns-then-is_some
+returns-then-is_some g c =
+    let p = c.serve_document.new.self.pass in
+    (refl, c.args.context.now.names_backend.0 p.pass p.belongs, c.serve_document.ensures)
+
 pub returns-in_err-receive : goal.returns-in_err-receive
 returns-in_err-receive g c =
     let p = c.receive.new.self.pass in
@@ -18,8 +23,8 @@ returns-in_err-send g c =
     let answered = c.release_input.ensures ∙ c.answer_frames.ensures.2 ∙ c.receive.ensures in
     (refl, c.args.context.now.names_backend.0 p.pass p.belongs, c.send.ensures ∙ c.record_partial.ensures ∙ answered)
 
-pub returns-then-is_some-2 : goal.returns-then-is_some-2
-returns-then-is_some-2 g c =
+pub returns-then-is_answering : goal.returns-then-is_answering
+returns-then-is_answering g c =
     let p = c.send.new.self.pass in
     let answered = c.release_input.ensures ∙ c.answer_frames.ensures.2 ∙ c.receive.ensures in
     (refl, c.args.context.now.names_backend.0 p.pass p.belongs, c.send.ensures ∙ c.record_partial.ensures ∙ answered)
