@@ -58,6 +58,16 @@ class Client:
         self.socket.sendall(head + bytes(4) + text)
 
     def receive(self):
+        """Returns the next text. Its fragments are joined."""
+        fragments = []
+        while True:
+            first, payload = self.read_frame()
+            if first & 15 < 8:
+                fragments.append(payload)
+                if first & 128:
+                    return b"".join(fragments)
+
+    def read_frame(self):
         head = self.input.read(2)
         if len(head) < 2:
             raise EOFError
@@ -66,8 +76,7 @@ class Client:
             length = int.from_bytes(self.input.read(2), "big")
         elif length == 127:
             length = int.from_bytes(self.input.read(8), "big")
-        text = self.input.read(length)
-        return text if head[0] & 15 == 1 else self.receive()
+        return head[0], self.input.read(length)
 
     def submit(self, document, **content):
         """Sends an operation and waits for its acknowledgement, after the operations of others."""
