@@ -1,8 +1,8 @@
-"""Measures what clients that request one large document at once cost the editors of other documents: readers.py SERVER [READERS [BYTES]]
+"""Measures what clients that request a large document at once cost an editor of others: readers.py SERVER [READERS [BYTES]]
 
-A document has a text of BYTES bytes (1,000,000). READERS clients (200) request it at one moment, and read all that comes. Meanwhile a
-bystander sends edits to sixteen other documents in turn, until all have the document. It prints the middle and the slowest
-acknowledgement of the bystander, first without the others; and the time until each reader has the document, for five rounds.
+A document has a text of BYTES bytes (1,000,000). READERS clients (200) request it at one moment, five times, and read all that
+comes. Meanwhile a bystander sends edits to sixteen other documents in turn. It prints the middle and the slowest acknowledgement of
+the bystander, first without the others; and the time until each reader has the document.
 
 SERVER is the program of the server. It is started at a port of its own and stopped at the end."""
 import multiprocessing
