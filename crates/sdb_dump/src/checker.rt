@@ -1,10 +1,10 @@
 //! The checker of a dump's lines.
 ghost use Rattle.std.specs.Prelude.{◌≡◌, ◌+◌, ◌^◌, ◌<◌, ◌≤◌, List, [], Option, None, OnOk, IfOk, IfErr, IfSome, IsErrOf, option_map, unwrap_or, string_bytes, Ok};
 ghost use Rattle.std.specs.BTreeMap.{insert_entry};
-ghost use Rattle.sdb_oplog.specs.Decide.{decide, IsMade};
+ghost use Rattle.sdb_oplog.specs.Decide.{IsMade};
 ghost use Rattle.sdb_oplog.specs.Keys.{compare_keys, plain_key};
 ghost use Rattle.sdb_dump.specs.CheckerModel.{CheckerAtStage, AcceptsOrRejects, AcceptedHasAll, CheckerHolds, TakesDocument, accepted_logs};
-ghost use Rattle.sdb_dump.specs.DumpText.{PlainLine, count_line, accepted_line, line_of_read, is_text_of_entry, version_of};
+ghost use Rattle.sdb_dump.specs.DumpText.{PlainLine, count_line, accepted_line, line_of_read, version_of};
 ghost use Rattle.sdb_dump.specs.Faults.{IsDumpFault, IsStageFault};
 ghost use Rattle.sdb_dump.specs.View.{plain_line_content};
 ghost use Rattle.sdb_dump.specs.EntryLimits.{KeyInLimits, SubmissionInLimits};
@@ -12,11 +12,11 @@ ghost use Rattle.sdb_dump.specs.CheckStages.{PlainStage, stage_after_line, stage
 ghost use Rattle.sdb_dump.specs.declared.checker.Stage.TheVariants.{Header, Body};
 ghost use Rattle.sdb_dump.specs.declared.checker.DumpFault.TheVariants.{OutOfMemory, WrongLine};
 
-use crate::dump_line::{LineContent, line_text, read_line};
+use crate::decided_line::{append_decided, is_line_of};
+use crate::dump_line::{LineContent, read_line};
 use crate::made_log::MadeLog;
 use crate::version::DumpVersion;
-use sdb_oplog::{DecidedLog, Entry, Key, Log, Moment, Rejection, Submission};
-use sdb_wire::refusal_code;
+use sdb_oplog::{DecidedLog, Key, Log};
 use std::alloc::{AllocError, Global};
 use std::cmp::Ordering;
 use std::collections::BTreeMap;
@@ -202,7 +202,7 @@ impl Checker {
             return Ok(false);
         };
         let at = document.log().len();
-        decide(self.alloc, &mut document, submission, moment)?;
+        append_decided(self.alloc, &mut document, submission, moment)?;
         let Some(entry) = document.log().get(at) else {
             return Ok(false);
         };
@@ -289,42 +289,6 @@ impl Checker {
             line: self.entries + behind,
         }
     }
-}
-
-// Decides a submission at a moment, and appends it unless it is rejected.
-fn decide(
-    alloc: Global,
-    document: &mut DecidedLog,
-    submission: Submission,
-    now: Moment,
-) -> Result<(), AllocError>
-    ensures { OnOk result (document.new ≡ (decide document.old submission now).log) }
-{
-    match document.decide(alloc, submission, now) {
-        Ok(_) => Ok(()),
-        Err(Rejection::Repeat { .. }) => Ok(()),
-        Err(Rejection::Refused(code)) => {
-            refusal_code(code)?;
-            Ok(())
-        }
-    }
-}
-
-// Returns whether the entry has this moment and its line is this one.
-fn is_line_of(
-    alloc: Global,
-    version: DumpVersion,
-    line: &[u8],
-    key: &Key,
-    entry: &Entry,
-    moment: Moment,
-) -> Result<bool, AllocError>
-    ensures { IfOk result (λ b. b ≡ is_text_of_entry version line.now (plain_key key.now) moment entry.now) }
-{
-    if entry.moment().milliseconds() != moment.milliseconds() {
-        return Ok(false);
-    }
-    Ok(line_text(alloc, version, key, entry)?.as_slice() == line)
 }
 
 // Returns the version of a dump that begins with this line.

@@ -13,5 +13,5 @@ returns-in-Some c =
     let old = c.args.log.now in
     let e = c.in-Some.entry.now in
     let by : decided_entry old r.submission r.moment ≡ Some e =
-    ap₂ slice_get (sym (c.log-2.ensures.log ∙ c.in_ok-decide.ensures)) (sym (c.len-at.ensures.len ∙ ap length c.log.ensures.log)) ∙ sym c.in-Some.ensures in
-    decides c.args.line.now r old c.decide.new.log e by (c.in_ok-decide.ensures ∙ (stored_is old r.submission r.moment e by).grows) c.is_line_of.result c.is_line_of.ensures
+    ap₂ slice_get (sym (c.log-2.ensures.log ∙ c.in_ok-append_decided.ensures)) (sym (c.len-at.ensures.len ∙ ap length c.log.ensures.log)) ∙ sym c.in-Some.ensures in
+    decides c.args.line.now r old c.append_decided.new.log e by (c.in_ok-append_decided.ensures ∙ (stored_is old r.submission r.moment e by).grows) c.is_line_of.result c.is_line_of.ensures

@@ -16,7 +16,7 @@ returns-in_default-get-clause-accepted c = λ xs h.
     let log = c.in-Some.document in
     let w : CheckerContinues xs r.key log mid = subst (TakesDocument xs r.key mid) c.in-Some.is (c.in_ok-document.ensures.taken xs h) in
     let by : decided_entry log r.submission r.moment ≡ None =
-    ap₂ slice_get (sym (c.log-2.ensures.log ∙ c.in_ok-decide.ensures)) (sym (c.len-at.ensures.len ∙ ap length c.log.ensures.log)) ∙ sym c.in_default-get.ensures in
+    ap₂ slice_get (sym (c.log-2.ensures.log ∙ c.in_ok-append_decided.ensures)) (sym (c.len-at.ensures.len ∙ ap length c.log.ensures.log)) ∙ sym c.in_default-get.ensures in
     not_entered c.args.version xs c.args.line.now r log mid w by
 
 pub returns-clause-accepted : goal.returns-clause-accepted
@@ -26,11 +26,11 @@ returns-clause-accepted c = λ xs h.
     let mid = c.take_document.new.self in
     let log = c.in-Some.document in
     let e = c.in-Some-get.entry.now in
-    let last : LastDocument = record { key = c.args.read.key; document = c.decide.new.document } in
+    let last : LastDocument = record { key = c.args.read.key; document = c.append_decided.new.log } in
     let new : Checker = record { alloc = mid.alloc; stage = mid.stage; logs = mid.logs; last = Some last; entries = mid.entries + 1 } in
     let w : CheckerContinues xs r.key log mid = subst (TakesDocument xs r.key mid) c.in-Some.is (c.in_ok-document.ensures.taken xs h) in
     let by : decided_entry log r.submission r.moment ≡ Some e =
-    ap₂ slice_get (sym (c.log-2.ensures.log ∙ c.in_ok-decide.ensures)) (sym (c.len-at.ensures.len ∙ ap length c.log.ensures.log)) ∙ sym c.in-Some-get.ensures in
+    ap₂ slice_get (sym (c.log-2.ensures.log ∙ c.in_ok-append_decided.ensures)) (sym (c.len-at.ensures.len ∙ ap length c.log.ensures.log)) ∙ sym c.in-Some-get.ensures in
     enter_holds c.args.version xs c.args.line.now r log mid w old new e last c.in_ok-is_right.is_right h c.requires.in_limits.0 c.requires.in_limits.1 by refl refl refl
-    (c.in_ok-decide.ensures ∙ (stored_is log r.submission r.moment e by).grows)
+    (c.in_ok-append_decided.ensures ∙ (stored_is log r.submission r.moment e by).grows)
     (ap (λ n. n + 1) c.take_document.ensures.entries) c.in_ok-is_right.ensures
