@@ -1,10 +1,9 @@
 -- The logs of a closed restorer.
-use Rattle.std.proofs.Common.{◌≡◌, ℕ, ◌+◌, ◌<◌, ◌≤◌, ◌⊎◌, inl, inr, List, [], ◌∷◌, ◌++◌, length, sum, slice_get, slice_index_or, get_or, option_map, Option, Some, None, sym, ap, ◌∙◌, subst, rules, arith}
+use Rattle.std.proofs.Common.{◌≡◌, ℕ, ◌+◌, ◌<◌, ◌≤◌, ◌⊎◌, inl, inr, List, [], ◌∷◌, length, sum, slice_get, get_or, option_map, Option, Some, None, sym, ap, ◌∙◌, subst, rules, arith}
 use Rattle.std.specs.Prelude.{unwrap_or}
 use Rattle.std.proofs.Math.Nat.{mod-lt}
 use Rattle.std.proofs.lemmas.Option.{slice_get_cases}
 use Rattle.sdb_growlock.specs.LockRule.{ForEach}
-use Rattle.sdb_oplog.specs.Plain.{PlainEntry}
 use Rattle.sdb_oplog.specs.Keys.{PlainKey, shard_of}
 use Rattle.sdb_desk.specs.ShardView.{logs_of}
 use Rattle.sdb_backend.specs.AuditModel.{audit_logs, HasShard, ExtendsEveryPass}

@@ -1,9 +1,10 @@
 //! Taking stored entries from a backend, and writing their lines.
-ghost use Rattle.std.specs.Prelude.{◌≡◌, ◌⊎◌, ◌++◌, ◌∷◌, [], List, ℕ, IfOk, OnOk, OnErr};
+ghost use Rattle.std.specs.Prelude.{◌≡◌, ◌⊎◌, ◌+◌, ◌<◌, ◌++◌, ◌∷◌, [], List, ℕ, IfOk, OnOk, OnErr, length, slice_get, Some};
 ghost use Rattle.sdb_journal.specs.JournalText.{number_line};
 ghost use Rattle.sdb_journal.specs.StoreMachine.{IsIn};
 ghost use Rattle.sdb_backend.specs.PassModel.{IsPassOfBackend};
-ghost use Rattle.sdb_store.specs.SaverModel.{lines_of, saver_pass, unwritten_lines, reserved_number, HasBlockLine, IsJournalLine, AddsLines, CommitsRound};
+ghost use Rattle.sdb_backend.specs.UnsavedEntries.{plain_entry_at};
+ghost use Rattle.sdb_store.specs.SaverModel.{lines_of, saver_pass, unwritten_lines, places_left, reserved_number, HasBlockLine, IsLineAt, AddsLines, TakesWithLines, CommitsRound};
 
 use crate::line_writer::{LineWriter, WriteFault};
 use sdb_backend::{Backend, EntryAt, Pass, SHARD_COUNT};
@@ -61,8 +62,8 @@ pub struct Saver {
     alloc: Global,
     pub(crate) pass: Pass,
     // The entries of a shard that were taken last, and how many of them have a line in the group.
-    taken: Vec<EntryAt>,
-    position: usize,
+    pub(crate) taken: Vec<EntryAt>,
+    pub(crate) position: usize,
     // The lines that are to be written.
     group: Vec<Vec<u8>>,
     // The highest number of the written blocks, and of the group's.
@@ -75,7 +76,7 @@ impl Saver {
     pub fn new(alloc: Global, pass: Pass, reserved: u64) -> Saver
         ensures pass { saver_pass result ≡ pass }
         ensures reserved { reserved_number result ≡ reserved }
-        ensures nothing_unwritten { (unwritten_lines result ≡ []) × HasBlockLine result }
+        ensures nothing_unwritten { (unwritten_lines result ≡ []) × (places_left result ≡ []) × HasBlockLine result }
     {
         Saver {
             alloc,
@@ -111,7 +112,7 @@ impl Saver {
         requires { IsPassOfBackend (saver_pass self.old) backend.now }
         ensures pass { IsPassOfBackend (saver_pass self.new) backend.now }
         ensures committed { W.trusts writer.new → OnOk result
-            (CommitsRound W.has_lines backend.now self.old self.new writer.old writer.new) }
+            (CommitsRound backend.now W.has_lines self.old self.new writer.old writer.new) }
         ensures kept_on_err { OnErr result (AddsLines backend.now self.old self.new) }
         ensures block { HasBlockLine self.old → HasBlockLine self.new }
     {
@@ -140,6 +141,9 @@ impl Saver {
         requires { IsPassOfBackend (saver_pass self.old) backend.now }
         ensures pass { IsPassOfBackend (saver_pass self.new) backend.now }
         ensures added { AddsLines backend.now self.old self.new }
+        ensures none_left { OnOk result (places_left self.new ≡ []) }
+        ensures taken { OnOk result ((shard : ℕ) → shard < 8
+            → TakesWithLines backend.now (unwritten_lines self.new) shard) }
     {
         self.add_taken(backend)?;
         for shard in 0..SHARD_COUNT {
@@ -158,41 +162,38 @@ impl Saver {
         requires { IsPassOfBackend (saver_pass self.old) backend.now }
         ensures pass { IsPassOfBackend (saver_pass self.new) backend.now }
         ensures added { AddsLines backend.now self.old self.new }
+        ensures none_left { OnOk result (places_left self.new ≡ []) }
     {
-        for position in self.position..self.taken.len() {
-            self.add_line_at(backend, position)?;
+        while self.position < self.taken.len() {
+            self.add_next_line(backend)?;
         }
         Ok(())
     }
 
-    // Adds the line of a taken entry to the group.
-    fn add_line_at<R: Wait + Drop>(
-        &mut self,
-        backend: &Backend<R>,
-        position: usize,
-    ) -> Result<(), SaveFault>
-        requires { IsPassOfBackend (saver_pass self.old) backend.now }
+    // Adds the line of the next taken entry to the group.
+    fn add_next_line<R: Wait + Drop>(&mut self, backend: &Backend<R>) -> Result<(), SaveFault>
+        requires pass { IsPassOfBackend (saver_pass self.old) backend.now }
+        requires position { self.old.position < length self.old.taken.items }
         ensures pass { IsPassOfBackend (saver_pass self.new) backend.now }
         ensures added { AddsLines backend.now self.old self.new }
+        ensures taken_unchanged { self.new.taken ≡ self.old.taken }
+        ensures position { OnOk result (self.new.position ≡ self.old.position + 1) }
     {
-        let line = self.line_at(backend, position)?;
+        let line = self.next_line(backend)?;
         push_line(&mut self.group, line)?;
-        self.position = position.saturating_add(1);
+        self.position += 1;
         Ok(())
     }
 
-    // Returns the line of a taken entry.
-    fn line_at<R: Wait + Drop>(
-        &mut self,
-        backend: &Backend<R>,
-        position: usize,
-    ) -> Result<Vec<u8>, SaveFault>
+    // Returns the line of the next taken entry.
+    fn next_line<R: Wait + Drop>(&mut self, backend: &Backend<R>) -> Result<Vec<u8>, SaveFault>
         requires { IsPassOfBackend (saver_pass self.old) backend.now }
         ensures pass { IsPassOfBackend (saver_pass self.new) backend.now }
         ensures others_unchanged { self.new ≡ record self.old { pass = saver_pass self.new } }
-        ensures line { IfOk result (λ line. IsJournalLine backend.now line.items) }
+        ensures line { IfOk result (λ line. (e : _) × (slice_get self.old.taken.items self.old.position ≡ Some e)
+            × IsLineAt backend.now (plain_entry_at e) line.items) }
     {
-        let Some(place) = self.taken.get(position) else {
+        let Some(place) = self.taken.get(self.position) else {
             return Err(SaveFault::Incomplete);
         };
         read_line(self.alloc, backend, &mut self.pass, place)
@@ -201,6 +202,7 @@ impl Saver {
     // Writes the group. After a failure it is kept.
     fn write_group<W: LineWriter>(&mut self, writer: &mut W) -> Result<(), SaveFault>
         ensures pass { saver_pass self.new ≡ saver_pass self.old }
+        ensures places_unchanged { places_left self.new ≡ places_left self.old }
         ensures committed { W.trusts writer.new → OnOk result ((lines : List (List ℕ)) → W.has_lines lines writer.old
             → W.has_lines (lines ++ unwritten_lines self.old) writer.new) }
         ensures none_left { OnOk result (unwritten_lines self.new ≡ []) }
@@ -235,7 +237,7 @@ fn read_line<R: Wait + Drop>(
 ) -> Result<Vec<u8>, SaveFault>
     requires { IsPassOfBackend pass.old backend.now }
     ensures pass { IsPassOfBackend pass.new backend.now }
-    ensures line { IfOk result (λ line. IsJournalLine backend.now line.items) }
+    ensures line { IfOk result (λ line. IsLineAt backend.now (plain_entry_at place.now) line.items) }
 {
     let EntryAt { key, version } = place;
     let entries = backend.ops_between(pass, key, *version, version.saturating_add(1))?;
