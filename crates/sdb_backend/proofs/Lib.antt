@@ -8,5 +8,7 @@ pub mod SearchLemmas
 pub mod SeenLemmas
 pub mod StepLemmas
 pub mod PassRunLemmas
+pub mod ReplacedItem
+pub mod RestoredLogs
 pub mod OpenCountLemmas
 pub mod ReplayLemmas

@@ -7,5 +7,7 @@ pub mod OpenQueueCount
 pub mod ReplayBases
 pub mod PassModel
 pub mod PassRuns
+pub mod RestorationModel
+pub mod RestorationLaws
 pub mod UnsavedEntries
 pub mod laws

@@ -1,7 +1,7 @@
 -- The passes of a backend's callers, and their host.
 use Rattle.std.specs.Prelude.{◌≡◌, ℕ, ◌<◌, List, map, Contains}
-use Rattle.sdb_oplog.specs.Keys.{PlainKey, shard_of}
-use Rattle.sdb_desk.specs.ShardView.{machine_of}
+use Rattle.sdb_oplog.specs.Keys.{PlainKey, Logs, shard_of}
+use Rattle.sdb_desk.specs.ShardView.{machine_of, logs_of}
 use Rattle.sdb_striped_lock.specs.SeatSetModel.{SeatSetBelongsTo, AreRootSeatsOf, SeatSetHasSeen, RootSeatsHaveSeen, ChangedOnlyAt}
 use Rattle.sdb_striped_lock.specs.SeatSetModel as locks
 use Rattle.sdb_striped_lock.specs.declared.striped_lock.StripedLock.{StripedLock}
@@ -42,6 +42,14 @@ PassHasSeenShard p i x = SeatSetHasSeen p.seats i x
 
 abbrev pub PassHasSeen : Pass → PlainKey → Held → Type 0
 PassHasSeen p k x = PassHasSeenShard p (shard_of k) x
+
+-- the state that the host has observed of a shard
+abbrev pub HostHasSeenShard : Host → ℕ → Held → Type 0
+HostHasSeenShard h i x = RootSeatsHaveSeen h.seats i x
+
+-- the host has observed this log of each key
+abbrev pub HostHasSeenLogs : Host → Logs → Type 0
+HostHasSeenLogs h logs = (k : PlainKey) → (x : Held) × HostHasSeenShard h (shard_of k) x × (logs_of x.shard k ≡ logs k)
 
 -- the pass has observed nothing new of the other shards
 abbrev pub ChangesPassOnlyAt : ℕ → Pass → Pass → Type 0

@@ -92,8 +92,8 @@ impl<R: Drop> Backend<R> {
         Ok((backend, Host { seats }))
     }
 
-    /// Creates a pass with a new number, starting with 1. The pass has observed what its host has,
-    /// and nothing is stored under its number. It doesn't wait.
+    /// Creates a pass with a new number, starting with 1, or with the number after a restoration. The
+    /// pass has observed what its host has, and nothing is stored under its number. It doesn't wait.
     ///
     /// # Errors
     ///
@@ -110,7 +110,8 @@ impl<R: Drop> Backend<R> {
         ensures host { IsHostOfBackend host.new self.now }
         ensures pass { IfOk result (λ p. IsPassOfBackend p self.now × (pass_number p ≡ next_pass_number host.old)) }
         ensures new { IfOk result (λ p. HasEmptyShare p) }
-        ensures seen { IfOk result (λ p. HasSeenHostHistories p host.old) }
+        ensures seen { IfOk result
+            (λ p. HasSeenHostHistories p host.old × HasSeenHostHistories p host.new) }
         ensures next { OnOk result (next_pass_number host.new ≡ next_pass_number host.old + 1) }
         ensures bound { OnOk result (next_pass_number host.old < u64.MAX) }
         ensures full { IfErr result (λ code. code ≡ E11 → next_pass_number host.old ≡ u64.MAX) }

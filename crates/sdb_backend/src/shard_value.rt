@@ -1,4 +1,9 @@
 //! The documents of one lock.
+ghost use Rattle.std.specs.Prelude.{◌≡◌, None};
+ghost use Rattle.sdb_desk.specs.ShardState.{empty_state};
+ghost use Rattle.sdb_desk.specs.ShardView.{state_of};
+ghost use Rattle.sdb_backend.specs.UnsavedEntries.{unsaved_of};
+
 use crate::unsaved::EntryAt;
 use sdb_desk::Shard;
 use sdb_growlock::Grows;
@@ -12,6 +17,19 @@ pub struct Held {
     // The entries that were stored since they were taken last, in the order of storing. `None` if
     // they aren't listed, or if an allocation for the list has failed.
     pub(crate) unsaved: Option<Vec<EntryAt>>,
+}
+
+impl Held {
+    // Creates a shard without documents, whose entries aren't listed.
+    pub(crate) fn new(alloc: Global) -> Held
+        ensures state { state_of result.shard ≡ empty_state }
+        ensures unlisted { unsaved_of result ≡ None }
+    {
+        Held {
+            shard: Shard::new(alloc),
+            unsaved: None,
+        }
+    }
 }
 
 impl Grows for Held {
@@ -43,9 +61,6 @@ impl Grows for Held {
 
 impl Empty for Held {
     fn empty(alloc: Global) -> Held {
-        Held {
-            shard: Shard::new(alloc),
-            unsaved: None,
-        }
+        Held::new(alloc)
     }
 }

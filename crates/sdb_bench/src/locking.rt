@@ -49,7 +49,7 @@ impl Job<Count> for CountTurn {
 }
 
 fn grow_lock<R: Wait>(rt: &HostRuntime, waiting: &R) -> anyhow::Result<()> {
-    let Ok((lock, mut seat)) = GrowLock::new(rt.alloc(), Count { turns: 0 }) else {
+    let Ok((lock, mut seat)) = GrowLock::new(rt.alloc(), Count { turns: 0 }, 1) else {
         return Ok(());
     };
     let start = Instant::now(rt)?;

@@ -51,25 +51,25 @@ module _ {T : Type 0} (extends : T → T → Type 0) (same : ℕ → T → T →
   abbrev ViewInvariantHere : ℕ → T → ℕ → (ℕ → ℕ) → ℕ → ℕ → View T → Type 0
   ViewInvariantHere = ViewInvariant extends same blank
 
-  initial_view_invariant : (x : T) → ((a : T) → extends a a) → ((n : ℕ) (a : T) → same n a a) → ((k : ℕ) → 0 < k → blank k x)
-      → (j : ℕ) (d : View T) → get_elem? (idle_view 0 x 1 ∷ []) j ≡ some d → ViewInvariantHere 0 x 1 (λ _. 0) 0 j d
-  initial_view_invariant x itself same_itself clear zero d e = subst (ViewInvariantHere 0 x 1 (λ _. 0) 0 0) (some-injective (idle_view 0 x 1) d e) record {
-    observations_fit = (record { below_next = omega arith; owner_is = refl; extends_observed = itself x; same_as_observed = same_itself 0 x; blank_above = λ k h. clear k (omega arith) }, tt);
+  initial_view_invariant : (x : T) (next : ℕ) → 0 < next → ((a : T) → extends a a) → ((n : ℕ) (a : T) → same n a a) → ((k : ℕ) → next ≤ k → blank k x)
+      → (j : ℕ) (d : View T) → get_elem? (idle_view 0 x next ∷ []) j ≡ some d → ViewInvariantHere 0 x next (λ _. 0) 0 j d
+  initial_view_invariant x next first itself same_itself clear zero d e = subst (ViewInvariantHere 0 x next (λ _. 0) 0 0) (some-injective (idle_view 0 x next) d e) record {
+    observations_fit = (record { below_next = first; owner_is = refl; extends_observed = itself x; same_as_observed = same_itself 0 x; blank_above = clear }, tt);
     out = λ y e. absurd (cc);
     first_has_next = λ _. (refl, refl);
     notes_extended = tt;
   }
-  initial_view_invariant x itself same_itself clear (suc j) d e = absurd (some-ne-none d (sym e))
+  initial_view_invariant x next first itself same_itself clear (suc j) d e = absurd (some-ne-none d (sym e))
 
-  pub initial_invariant : (x : T) → ((a : T) → extends a a) → ((n : ℕ) (a : T) → same n a a) → ((k : ℕ) → 0 < k → blank k x) → Rule (opening (0 ∷ []) (Some x ∷ []) (idle_view 0 x 1))
-  initial_invariant x itself same_itself clear = record {
+  pub initial_invariant : (x : T) (next : ℕ) → 0 < next → ((a : T) → extends a a) → ((n : ℕ) (a : T) → same n a a) → ((k : ℕ) → next ≤ k → blank k x) → Rule (opening (0 ∷ []) (Some x ∷ []) (idle_view 0 x next))
+  initial_invariant x next first itself same_itself clear = record {
     value = x;
-    next = 1;
+    next = next;
     owner = λ _. 0;
     holder_number = 0;
     one_word = refl;
-    blank_above = λ k h. clear k (omega arith);
-    views_known = initial_view_invariant x itself same_itself clear;
+    blank_above = clear;
+    views_known = initial_view_invariant x next first itself same_itself clear;
     value_at_home = λ _. refl;
     value_is_out = λ ne. absurd (ne refl);
   }

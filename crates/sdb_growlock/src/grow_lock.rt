@@ -11,7 +11,7 @@ use std::sync::atomic::AtomicU64;
 ///
 /// ```
 /// // `CountTurn` is a `Job` that adds 1 to a `Count` and returns the sum.
-/// let Ok((lock, mut seat)) = GrowLock::new(alloc, Count { turns: 0 }) else {
+/// let Ok((lock, mut seat)) = GrowLock::new(alloc, Count { turns: 0 }, 1) else {
 ///     return Err(AllocError);
 /// };
 /// assert_eq!(rt; lock.with(&rt, &mut seat, CountTurn), 1);
@@ -25,8 +25,8 @@ pub struct GrowLock<T: Grows> {
     ghost one_word_one_slot: { (table.shared.table_id.words ≡ 1) × (table.shared.table_id.slots ≡ 1) },
 }
 
-/// The right to acquire one lock, under a unique number: 0 for the first seat, then one more for
-/// each split. A seat records the last value that it observed (`HasSeen`), which each later value
+/// The right to acquire one lock, under a unique number: 0 for the first seat, then from the lock's
+/// `next` on, one more for each split. A seat records the last value that it observed (`HasSeen`), which each later value
 /// extends.
 ///
 /// ```

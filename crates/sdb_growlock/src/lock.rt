@@ -2,11 +2,12 @@
 ghost use Rattle.std.specs.Prelude.{◌≡◌, ◌≢◌, ℕ, ◌+◌, ◌<◌, ◌≤◌, map, [], ◌∷◌, IfOk, IfErr, IsTrue, IsFalse};
 ghost use Rattle.sdb_growlock.specs.LockRule.{ForEach, AcquiresValue, idle_view, observation, holder_view, released_view, splitter_view, split_off_view, join_views, join_all_views};
 ghost use Rattle.sdb_growlock.specs.SeatModel.{BelongsTo, HasSeen, number, next, seat_count, HasNumber};
+ghost use Rattle.sdb_growlock.specs.SeatModel as model;
 
 use crate::grow_lock::{GrowLock, Seat};
 use crate::grows::{Grows, Job};
 use crate::rule::{
-    AcquireStep, CompareStep, NoteStep, ReadStep, ReleaseStep, SplitJoinStep, TableSeat,
+    AcquireStep, CompareStep, NewLock, NoteStep, ReadStep, ReleaseStep, SplitJoinStep, TableSeat,
 };
 use atomic_table::{Refused, Table};
 use std::alloc::Global;
@@ -27,15 +28,17 @@ pub enum SplitFault {
 }
 
 impl<T: Grows> GrowLock<T> {
-    /// Creates a lock around the value, and its first seat.
+    /// Creates a lock around the value, and its first seat. The first split creates the seat with
+    /// the number `next`. Parts of lower numbers belong to no seat.
     ///
     /// # Errors
     ///
     /// The value, if an allocation fails.
-    pub fn new(alloc: Global, value: T) -> Result<(GrowLock<T>, Seat<T>), T>
-        requires blank { (k : ℕ) → 0 < k → T.blank k value }
+    pub fn new(alloc: Global, value: T, next: u64) -> Result<(GrowLock<T>, Seat<T>), T>
+        requires first { 0 < next }
+        requires blank { (k : ℕ) → next ≤ k → T.blank k value }
         ensures belongs { IfOk result (λ made. BelongsTo made.1 made.0) }
-        ensures first { IfOk result (λ made. (number made.1 ≡ 0) × (next made.1 ≡ 1)) }
+        ensures first { IfOk result (λ made. (number made.1 ≡ 0) × (model.next made.1 ≡ next)) }
         ensures seen { IfOk result (λ made. HasSeen made.1 value) }
         ensures err { IfErr result (λ given. given ≡ value) }
     {
@@ -43,13 +46,16 @@ impl<T: Grows> GrowLock<T> {
             Ok(slots) => slots,
             Err(_) => return Err(value),
         };
-        let about = Snapshot::of(&value);
+        let about = NewLock {
+            value: Snapshot::of(&value),
+            next,
+        };
         slots.push_reserved(Some(value));
         match Table::new(alloc, &[0], slots, &about) {
             Ok((table, inner)) => {
                 let first = Seat {
                     number: 0,
-                    next: 1,
+                    next,
                     inner,
                 };
                 let waiting = AtomicU64::new(0);
@@ -136,6 +142,9 @@ impl<T: Grows> GrowLock<T> {
 
     /// Returns the value, given all seats of the lock. It extends what each seat has observed, has
     /// each seat's part unchanged, and has no part of any other number.
+    ///
+    /// These are the seats of all numbers from 0 on, so a lock that was created with a `next` above 1
+    /// can't be closed.
     pub fn close(self, mut seats: Vec<Seat<T>>) -> T
         requires belongs { ForEach (λ s. BelongsTo s self) seats.items }
         requires first { 0 < seat_count seats.items }

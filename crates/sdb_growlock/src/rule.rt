@@ -7,13 +7,20 @@ use atomic_table::{Join, Play, Seat, Split, Table, TableRule};
 use std::alloc::Global;
 use std::snapshot::Snapshot;
 
+/// The value of a new lock, and the number of the first seat that is split off.
+#[derive(Drop)]
+pub struct NewLock<T> {
+    pub value: Snapshot<T>,
+    pub next: u64,
+}
+
 /// The rule: the value extends all that was observed, and has the observed part of each number.
 pub struct GrowthRule;
 
-impl<T: Grows> TableRule<Option<T>, View<T>, Snapshot<T>> for GrowthRule {
+impl<T: Grows> TableRule<Option<T>, View<T>, NewLock<T>> for GrowthRule {
     ghost holds = { λ _. LockInvariant T.extends T.same T.blank };
 
-    ghost first = { λ key. idle_view 0 key.value 1 };
+    ghost first = { λ key. idle_view 0 key.value.value key.next };
 }
 
 /// Sets the word to 1. If it was 0, the value moves to the seat.
@@ -69,6 +76,6 @@ impl<T> Join<View<T>> for SplitJoinStep {
     ghost spent = { empty_view };
 }
 
-pub type LockTable<T> = Table<Option<T>, View<T>, Snapshot<T>, GrowthRule, Global>;
+pub type LockTable<T> = Table<Option<T>, View<T>, NewLock<T>, GrowthRule, Global>;
 
 pub type TableSeat<T> = Seat<Option<T>, View<T>>;

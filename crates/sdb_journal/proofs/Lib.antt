@@ -1,6 +1,6 @@
-mod Decides
-mod Exact
-mod Items
+pub mod Decides
+pub mod Exact
+pub mod Items
 mod RestoredLines
-mod Restores
+pub mod Restores
 mod StoreRuns

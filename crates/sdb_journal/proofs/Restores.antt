@@ -17,7 +17,8 @@ use Rattle.sdb_journal.specs.declared.journal.Journal.{Journal}
 use Rattle.sdb_journal.proofs.Items.{entry_found}
 use Rattle.sdb_journal.proofs.Exact.{entries_append}
 
-logs_more : (xs : List PlainLine) (x : PlainLine) (q : PlainKey) → with_log (log_of_lines xs) x.key (log_of_lines xs x.key ++ x.entry ∷ []) q ≡ log_of_lines (xs ++ x ∷ []) q
+-- the logs and the highest number of items, with one more
+pub logs_more : (xs : List PlainLine) (x : PlainLine) (q : PlainKey) → with_log (log_of_lines xs) x.key (log_of_lines xs x.key ++ x.entry ∷ []) q ≡ log_of_lines (xs ++ x ∷ []) q
 logs_more xs x q = elim (cases_Bool (keys_equal x.key q)) [
   | inl t ↦
       (let same : x.key ≡ q = eq_of_keys_equal x.key q t in
@@ -29,7 +30,7 @@ logs_more xs x q = elim (cases_Bool (keys_equal x.key q)) [
       ∙ sym (log_more xs x q ∙ ap (λ b. log_of_lines xs q ++ cond b (x.entry ∷ []) []) (keys_equal_comm q x.key ∙ n))
 ]
 
-highest_more : (xs : List JournalItem) (x : JournalItem) → highest_number (xs ++ x ∷ []) ≡ max (highest_number xs) (item_number x)
+pub highest_more : (xs : List JournalItem) (x : JournalItem) → highest_number (xs ++ x ∷ []) ≡ max (highest_number xs) (item_number x)
 highest_more xs x = fold-append (λ n y. max n (item_number y)) 0 xs (x ∷ [])
 
 pub restores_entry : (old new : Journal) (xs : List JournalItem) (line : List ℕ) (r : PlainLineContent) (b : Bool) → read_line Two line ≡ Some r

@@ -100,7 +100,7 @@ where
 {
     let alloc = rt.alloc();
     let numbers = Vec::new(alloc);
-    let Ok((lock, mut first)) = GrowLock::new(alloc, Tally { numbers }) else {
+    let Ok((lock, mut first)) = GrowLock::new(alloc, Tally { numbers }, 1) else {
         panic!(rt; "out of memory");
     };
     let (Ok(one), Ok(two)) = (lock.split(&mut first), lock.split(&mut first)) else {

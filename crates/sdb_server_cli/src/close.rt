@@ -22,7 +22,7 @@ pub fn print_close<R: AllocGlobal + Print + Eprint, W: Drop>(
     is_dumping: bool,
 ) -> anyhow::Result<u8> {
     match closed {
-        Ok(audit) => print_stored(rt, &audit, is_dumping),
+        Ok(audit) => print_audit(rt, &audit, is_dumping),
         Err(refused) => match refused.error {
             CloseError::MissingPass => print_close_fault(rt, "a pass is missing"),
             CloseError::OutOfMemory => print_close_fault(rt, "out of memory"),
@@ -30,9 +30,9 @@ pub fn print_close<R: AllocGlobal + Print + Eprint, W: Drop>(
     }
 }
 
-// Prints the number of stored documents and operations, writes the dump if requested, and returns
-// the exit status.
-fn print_stored<R>(rt: &R, audit: &Audit, is_dumping: bool) -> anyhow::Result<u8>
+/// Prints the number of stored documents and operations, writes the dump if requested, and returns
+/// the exit status.
+pub(crate) fn print_audit<R>(rt: &R, audit: &Audit, is_dumping: bool) -> anyhow::Result<u8>
 where
     R: AllocGlobal + Print + Eprint,
 {

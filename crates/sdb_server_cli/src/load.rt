@@ -4,14 +4,13 @@ ghost use Rattle.sdb_store.specs.RestorerModel.{IsRestorer};
 
 use crate::store_file::print_store_fault;
 use crate::store_task::print_accepted;
-use sdb_backend::{Backend, Counts};
+use sdb_backend::Counts;
 use sdb_dump::DumpFault;
 use sdb_linefile::{LineFile, LineFileError, LineSink, UnreadFile};
 use sdb_store::{RestoreFault, Restorer};
 use sqlite::Alter;
 use std::alloc::{AllocError, Global};
 use std::io::BufRead;
-use std::sync::Wait;
 
 // The first line of a dump in version 2.
 const HEADER: &[u8] = b"{\"dump\":2}";
@@ -94,7 +93,7 @@ impl<I: BufRead> DumpLines<I> {
     }
 
     // Restores the entry of the line.
-    fn restore_to<R: Wait + Drop>(&self, restorer: &mut Restorer<R>) -> Result<(), DumpFault>
+    fn restore_to(&self, restorer: &mut Restorer) -> Result<(), DumpFault>
         requires { IsRestorer restorer.old }
         ensures { IsRestorer restorer.new }
     {
@@ -107,37 +106,29 @@ impl<I: BufRead> DumpLines<I> {
 
 /// Reads a dump in version 2 to its end, and checks it: each of its entries is the one that is
 /// stored for its submission.
-///
-/// # Errors
-///
-/// [`AllocError`] if an allocation for the documents fails.
-pub(crate) fn read_dump<R, I>(rt: R, input: I) -> anyhow::Result<Result<LoadedDump, DumpFault>>
+pub(crate) fn read_dump<R, I>(rt: R, input: I) -> Result<LoadedDump, DumpFault>
 where
-    R: AllocGlobal + Wait + Copy + Drop,
+    R: AllocGlobal + Drop,
     I: BufRead + Drop,
 {
     let alloc = rt.alloc();
-    let (backend, host) = Backend::new(alloc, rt)?;
-    let mut restorer = Restorer::new(alloc, backend, host);
+    let mut restorer = Restorer::new(alloc)?;
     let mut dump = DumpLines::new(alloc, input);
-    let lines = match read_entries(alloc, &mut dump, &mut restorer) {
-        Ok(lines) => lines,
-        Err(fault) => return Ok(Err(fault)),
-    };
-    Ok(match restorer.finish() {
+    let lines = read_entries(alloc, &mut dump, &mut restorer)?;
+    match restorer.finish(rt) {
         Ok(restored) => Ok(LoadedDump {
             lines,
             counts: restored.backend.counts(),
         }),
         Err(fault) => Err(dump.fault(fault)),
-    })
+    }
 }
 
 // Restores the entries of a dump, and returns their lines.
-fn read_entries<R: Wait + Drop, I: BufRead>(
+fn read_entries<I: BufRead>(
     alloc: Global,
     dump: &mut DumpLines<I>,
-    restorer: &mut Restorer<R>,
+    restorer: &mut Restorer,
 ) -> Result<Vec<Vec<u8>>, DumpFault>
     requires { IsRestorer restorer.old }
     ensures { IsRestorer restorer.new }

@@ -3,12 +3,11 @@ ghost use Rattle.std.specs.Prelude.{IfOk};
 ghost use Rattle.sdb_backend.specs.PassModel.{IsHostOfBackend};
 ghost use Rattle.sdb_store.specs.RestorerModel.{IsRestorer};
 
-use sdb_backend::Backend;
 use sdb_cli::{STATUS_FAULT, STATUS_OK};
 use sdb_linefile::{LineFile, LineFileError, LineSink, UnreadFile};
 use sdb_store::{LineWriter, RestoreFault, RestoredBackend, Restorer, WriteFault};
 use sqlite::Alter;
-use std::sync::Wait;
+use std::alloc::Global;
 
 /// Prints why a file isn't used as a store, and returns the exit status.
 pub fn print_store_fault(rt: &impl Eprint, error: LineFileError) -> anyhow::Result<u8> {
@@ -30,12 +29,12 @@ pub fn print_closed(
 
 // Passes the lines of a file to a restorer.
 #[derive(Drop)]
-struct RestoringSink<R> {
-    restorer: Restorer<R>,
+struct RestoringSink {
+    restorer: Restorer,
     is_out_of_memory: bool,
 }
 
-impl<R: Wait + Drop> LineSink for RestoringSink<R> {
+impl LineSink for RestoringSink {
     ghost use Rattle.std.specs.Prelude.{⊤};
 
     ghost accepts = { λ _ _ _. ⊤ };
@@ -51,29 +50,27 @@ impl<R: Wait + Drop> LineSink for RestoringSink<R> {
     }
 }
 
-/// Restores the lines of the file to a new backend, and returns the file and the restorer.
-pub(crate) fn restore_lines<R, S>(
-    rt: R,
+/// Restores the lines of the file, and returns the file and the restorer.
+pub(crate) fn restore_lines<S: Alter + Drop>(
+    alloc: Global,
     file: UnreadFile<S>,
-) -> anyhow::Result<Result<(LineFile<S>, Restorer<R>), LineFileError>>
-where
-    R: AllocGlobal + Wait + Drop + Copy,
-    S: Alter + Drop,
-    ensures { IfOk result (λ r. IfOk r (λ both. IsRestorer both.1)) }
+) -> Result<(LineFile<S>, Restorer), LineFileError>
+    ensures { IfOk result (λ both. IsRestorer both.1) }
 {
-    let alloc = rt.alloc();
-    let (backend, host) = Backend::new(alloc, rt)?;
+    let Ok(restorer) = Restorer::new(alloc) else {
+        return Err(LineFileError::OutOfMemory);
+    };
     let mut sink = RestoringSink {
-        restorer: Restorer::new(alloc, backend, host),
+        restorer,
         is_out_of_memory: false,
     };
     match file.restore(&mut sink) {
         Ok(file) => {
             let RestoringSink { restorer, .. } = sink;
-            Ok(Ok((file, restorer)))
+            Ok((file, restorer))
         }
-        Err(_) if sink.is_out_of_memory => Ok(Err(LineFileError::OutOfMemory)),
-        Err(error) => Ok(Err(error)),
+        Err(_) if sink.is_out_of_memory => Err(LineFileError::OutOfMemory),
+        Err(error) => Err(error),
     }
 }
 
@@ -81,19 +78,16 @@ where
 pub(crate) fn restore<R, S>(
     rt: R,
     file: UnreadFile<S>,
-) -> anyhow::Result<Result<(LineFile<S>, RestoredBackend<R>), LineFileError>>
+) -> Result<(LineFile<S>, RestoredBackend<R>), LineFileError>
 where
-    R: AllocGlobal + Wait + Drop + Copy,
+    R: AllocGlobal + Drop,
     S: Alter + Drop,
-    ensures { IfOk result (λ r. IfOk r (λ both. IsHostOfBackend both.1.host both.1.backend)) }
+    ensures { IfOk result (λ both. IsHostOfBackend both.1.host both.1.backend) }
 {
-    let (file, restorer) = match restore_lines(rt, file)? {
-        Ok(both) => both,
-        Err(error) => return Ok(Err(error)),
-    };
-    match restorer.finish() {
-        Ok(restored) => Ok(Ok((file, restored))),
-        Err(_) => Ok(Err(LineFileError::OutOfMemory)),
+    let (file, restorer) = restore_lines(rt.alloc(), file)?;
+    match restorer.finish(rt) {
+        Ok(restored) => Ok((file, restored)),
+        Err(_) => Err(LineFileError::OutOfMemory),
     }
 }
 

@@ -1,8 +1,6 @@
 //! What is done with a store file.
-ghost use Rattle.std.specs.Prelude.{IfOk};
-ghost use Rattle.sdb_store.specs.RestorerModel.{IsRestorer};
 
-use crate::close::print_close;
+use crate::close::print_audit;
 use crate::command_line::RunMode;
 use crate::load::{LoadedDump, read_dump, store_dump};
 use crate::store_file::{print_store_fault, restore, restore_lines};
@@ -39,8 +37,7 @@ pub enum StoreJob {
 ///
 /// # Errors
 ///
-/// [`AllocError`](std::alloc::AllocError) if an allocation fails. The [`io::Error`](std::io::Error)
-/// of looking for the file, or of printing a line.
+/// The [`io::Error`](std::io::Error) of looking for the file, or of printing a line.
 pub fn prepare_job<R>(
     rt: R,
     path: &str,
@@ -48,7 +45,7 @@ pub fn prepare_job<R>(
     table: Table,
 ) -> anyhow::Result<Option<StoreJob>>
 where
-    R: AllocGlobal + Input<Reader = StdinLock<'static>> + Eprint + Files + Wait + Copy + Drop,
+    R: AllocGlobal + Input<Reader = StdinLock<'static>> + Eprint + Files + Copy + Drop,
 {
     match mode {
         RunMode::Lines | RunMode::Listen { .. } => Ok(Some(StoreJob::Serve(mode, table))),
@@ -74,13 +71,13 @@ fn prepare_reading<R: Eprint + Files>(
 // Reads the dump, unless its file exists.
 fn prepare_load<R>(rt: R, path: &str) -> anyhow::Result<Option<StoreJob>>
 where
-    R: AllocGlobal + Input<Reader = StdinLock<'static>> + Eprint + Files + Wait + Copy + Drop,
+    R: AllocGlobal + Input<Reader = StdinLock<'static>> + Eprint + Files + Copy + Drop,
 {
     if fs::exists(&rt, path)? {
         eprintln!(&rt; "store: --load needs a new file")?;
         return Ok(None);
     }
-    match read_dump(rt, rt.reader())? {
+    match read_dump(rt, rt.reader()) {
         Ok(dump) => Ok(Some(StoreJob::Load(dump))),
         Err(fault) => {
             eprintln!(&rt; "load: {fault}")?;
@@ -108,7 +105,7 @@ where
     match job {
         StoreJob::Serve(mode, table) => serve_stored(rt, file, mode, table),
         StoreJob::Check => Ok((check_file(rt, file)?, None)),
-        StoreJob::Dump => Ok((dump_file(rt, file)?, None)),
+        StoreJob::Dump => Ok((dump_file(&rt, file)?, None)),
         StoreJob::Load(dump) => store_dump(&rt, file, dump),
     }
 }
@@ -139,10 +136,10 @@ where
 // Restores the file, and prints its numbers of documents and entries. Returns the exit status.
 fn check_file<R, S>(rt: R, file: UnreadFile<S>) -> anyhow::Result<u8>
 where
-    R: AllocGlobal + Print + Eprint + Wait + Copy + Drop,
+    R: AllocGlobal + Print + Eprint + Copy + Drop,
     S: Alter + Drop,
 {
-    match restore(rt, file)? {
+    match restore(rt, file) {
         Ok((_, restored)) => print_accepted(&rt, restored.backend.counts()),
         Err(error) => print_store_fault(&rt, error),
     }
@@ -156,13 +153,13 @@ pub(crate) fn print_accepted(rt: &impl Print, counts: Counts) -> anyhow::Result<
 }
 
 // Restores the file, and writes its dump. Returns the exit status.
-fn dump_file<R, S>(rt: R, file: UnreadFile<S>) -> anyhow::Result<u8>
+fn dump_file<R, S>(rt: &R, file: UnreadFile<S>) -> anyhow::Result<u8>
 where
-    R: AllocGlobal + Print + Eprint + Wait + Copy + Drop,
+    R: AllocGlobal + Print + Eprint,
     S: Alter + Drop,
 {
-    match restore_lines(rt, file)? {
-        Ok((_, restorer)) => print_close(&rt, restorer.close(), true),
-        Err(error) => print_store_fault(&rt, error),
+    match restore_lines(rt.alloc(), file) {
+        Ok((_, restorer)) => print_audit(rt, &restorer.into_audit(), true),
+        Err(error) => print_store_fault(rt, error),
     }
 }

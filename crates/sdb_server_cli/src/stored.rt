@@ -38,7 +38,7 @@ where
     R: Copy + Drop + Send + Sync + 'static,
     S: Alter + Drop + Send + 'static,
 {
-    let (file, restored) = match restore(rt, file)? {
+    let (file, restored) = match restore(rt, file) {
         Ok(both) => both,
         Err(error) => return Ok((print_store_fault(&rt, error)?, None)),
     };

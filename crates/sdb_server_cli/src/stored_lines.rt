@@ -190,7 +190,7 @@ where
     R: Wait + std::time::Clock + Copy + Drop,
     S: Alter + Drop,
 {
-    let (file, restored) = match restore(rt, file)? {
+    let (file, restored) = match restore(rt, file) {
         Ok(both) => both,
         Err(error) => return Ok((print_store_fault(&rt, error)?, None)),
     };

@@ -1,4 +1,4 @@
 mod AddsLemmas
 mod BetweenLemmas
-mod CloseLemmas
-mod EachLemmas
+mod RestoredItems
+mod RestoreLemmas

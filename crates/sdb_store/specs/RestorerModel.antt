@@ -1,29 +1,78 @@
--- The backend, the host and the passes of a restorer, and the numbers that its lines name.
-use Rattle.std.specs.Prelude.{◌≡◌, ℕ, List, Option, Some}
+-- The documents and the highest number that a restorer has restored.
+use Rattle.std.specs.Prelude.{◌≡◌, ◌⊎◌, ℕ, ◌<◌, ◌≤◌, List, [], ◌∷◌, ◌++◌, Option, Some, None, IfSome, option_map}
 use Rattle.std.specs.Option.{option_map_or}
-use Rattle.sdb_growlock.specs.LockRule.{ForEach}
 use Rattle.sdb_oplog.specs.Plain.{PlainEntry}
-use Rattle.sdb_oplog.specs.Keys.{PlainKey}
+use Rattle.sdb_oplog.specs.Keys.{PlainKey, Logs}
 use Rattle.sdb_desk.specs.ShardView.{logs_of}
 use Rattle.sdb_dump.specs.DumpLine.{read_line}
 use Rattle.sdb_dump.specs.DumpText.{entry_line}
 use Rattle.sdb_dump.specs.declared.version.DumpVersion.TheVariants.{Two}
-use Rattle.sdb_backend.specs.PassModel.{IsPassOfBackend, IsHostOfBackend, PassHasSeen}
+use Rattle.sdb_backend.specs.HistoryOrder.{IsExtension}
+use Rattle.sdb_backend.specs.PassModel.{PassHasSeen, HasSeenHostHistories}
+use Rattle.sdb_backend.specs.RestorationModel.{restored_logs, HasNoShare}
+use Rattle.sdb_backend.specs.declared.pass.Host.{Host}
 use Rattle.sdb_backend.specs.declared.pass.Pass.{Pass}
 use Rattle.sdb_backend.specs.declared.shard_value.Held.{Held}
-use Rattle.sdb_journal.specs.JournalText.{read_number}
+use Rattle.sdb_journal.specs.JournalText.{JournalItem, logs_of_items, accepted_item, read_number}
+use Rattle.sdb_journal.specs.JournalText as journal
 use Rattle.sdb_journal.specs.StoreMachine.{IsIn}
 use Rattle.sdb_store.specs.declared.restorer.Restorer.{Restorer}
 
-module _ {R : Type 0} where
-  -- the host and the passes belong to the backend
-  pub record IsRestorer (r : Restorer R) : Type 0 where
-    pub host : IsHostOfBackend r.host r.backend
-    pub passes : ForEach (λ p. IsPassOfBackend p r.backend) r.passes.items
+-- the log of each key
+abbrev pub restorer_logs : Restorer → Logs
+restorer_logs r = restored_logs r.restoration
 
-  -- the highest number that a restored line names, or 0
-  abbrev pub highest_number : Restorer R → ℕ
-  highest_number r = r.highest
+-- the highest number that a restored line names, or 0
+abbrev pub highest_number : Restorer → ℕ
+highest_number r = r.highest
+
+-- each entry was submitted under a number from 1 to the highest one
+pub record IsRestorer (r : Restorer) : Type 0 where
+  pub zero : HasNoShare 0 r.restoration
+  pub above : (n : ℕ) → highest_number r < n → HasNoShare n r.restoration
+
+-- logs get longer, and the highest number doesn't decrease
+pub record RestorerGrows (old new : Restorer) : Type 0 where
+  pub highest : highest_number old ≤ highest_number new
+  pub logs : (k : PlainKey) → IsExtension (restorer_logs new k) (restorer_logs old k)
+
+-- ---- the items of a journal
+
+-- the restorer has restored these items of a journal
+pub record HasRestored (r : Restorer) (xs : List JournalItem) : Type 0 where
+  pub logs : restorer_logs r ≡ logs_of_items xs
+  pub highest : highest_number r ≡ journal.highest_number xs
+
+-- the restorer has restored these items and that of the line
+pub record HasRestoredLine (r : Restorer) (xs : List JournalItem) (line : List ℕ) : Type 0 where
+  pub item : JournalItem
+  pub accepted : accepted_item xs line ≡ Some item
+  pub restored : HasRestored r (xs ++ item ∷ [])
+
+-- no item after these has this line, or the line is that of an entry with number 0
+abbrev pub IsWrongLine : List JournalItem → List ℕ → Type 0
+IsWrongLine xs line = (accepted_item xs line ≡ None) ⊎ (option_map (λ r. r.submission.by) (read_line Two line) ≡ Some 0)
+
+-- ---- lines
+
+-- a log has the entry of this line
+pub record HasLineIn (log : List PlainEntry) (k : PlainKey) (line : List ℕ) : Type 0 where
+  pub entry : PlainEntry
+  pub stored : IsIn entry log
+  pub line_is : line ≡ entry_line Two (record { key = k; entry = entry })
+
+-- the log of the key has the entry of this line
+abbrev pub HasStoredLine : Restorer → PlainKey → List ℕ → Type 0
+HasStoredLine r k line = HasLineIn (restorer_logs r k) k line
+
+-- the number that a line names: that of the pass which submitted an entry, or the last one of a block
+abbrev pub number_of_line : List ℕ → Option ℕ
+number_of_line line = option_map_or (λ r. Some r.submission.by) (read_line Two line) (read_number line)
+
+-- the highest number is at least the line's, and the entry of the line is stored
+pub record HasContentOfLine (r : Restorer) (line : List ℕ) : Type 0 where
+  pub number : IfSome (number_of_line line) (λ n. n ≤ highest_number r)
+  pub stored : IfSome (read_line Two line) (λ content. HasStoredLine r content.key line)
 
 -- the pass has observed a history that has the entry of this line
 pub record HasSeenLine (p : Pass) (k : PlainKey) (line : List ℕ) : Type 0 where
@@ -33,19 +82,6 @@ pub record HasSeenLine (p : Pass) (k : PlainKey) (line : List ℕ) : Type 0 wher
   pub stored : IsIn entry (logs_of history.shard k)
   pub line_is : line ≡ entry_line Two (record { key = k; entry = entry })
 
-module _ {R : Type 0} where
-  -- one of the passes has observed a history that has the entry of this line
-  pub record HasStoredLine (r : Restorer R) (k : PlainKey) (line : List ℕ) : Type 0 where
-    pub pass : Pass
-    pub is_own : IsIn pass r.passes.items
-    pub has_seen : HasSeenLine pass k line
-
--- a log has the entry of this line
-pub record HasLineIn (log : List PlainEntry) (k : PlainKey) (line : List ℕ) : Type 0 where
-  pub entry : PlainEntry
-  pub stored : IsIn entry log
-  pub line_is : line ≡ entry_line Two (record { key = k; entry = entry })
-
--- the number that a line names: that of the pass which submitted an entry, or the last one of a block
-abbrev pub number_of_line : List ℕ → Option ℕ
-number_of_line line = option_map_or (λ r. Some r.submission.by) (read_line Two line) (read_number line)
+-- each pass that has observed the host's histories has observed the entry of each stored line
+abbrev pub PassesHaveSeenLines : Restorer → Host → Type 0
+PassesHaveSeenLines r h = (p : Pass) (k : PlainKey) (line : List ℕ) → HasSeenHostHistories p h → HasStoredLine r k line → HasSeenLine p k line

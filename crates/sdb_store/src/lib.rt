@@ -5,7 +5,7 @@
 //! writes their lines as one group to a [`LineWriter`].
 //! [`SaveProgress`](sdb_progress::SaveProgress) has the numbers of the committed rounds. An entry that
 //! an answer reveals was stored before the answer: it is committed once a round is that began later.
-//! A [`Restorer`] submits the entries of the lines again.
+//! A [`Restorer`] restores the entries of the lines.
 #![tactic(auto)]
 
 mod line_writer;

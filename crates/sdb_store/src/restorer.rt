@@ -1,23 +1,26 @@
-//! Submitting the entries of a journal again.
-ghost use Rattle.std.specs.Prelude.{◌≡◌, ◌<◌, ◌≤◌, ◌+◌, ℕ, List, vec_len, IfOk, OnOk};
-ghost use Rattle.sdb_backend.specs.PassModel.{pass_number, next_pass_number, IsPassOfBackend, IsHostOfBackend};
-ghost use Rattle.std.specs.Prelude.{IfSome};
+//! Restoring the entries of a journal.
+ghost use Rattle.std.specs.Prelude.{◌≡◌, ◌≢◌, ◌⊎◌, ◌<◌, ◌≤◌, ◌+◌, List, [], true, false, None, length, max, slice_get, IfOk, IfErr, OnOk};
+ghost use Rattle.std.specs.Option.{option_map_or};
+ghost use Rattle.sdb_oplog.specs.Decide.{decide};
+ghost use Rattle.sdb_oplog.specs.Keys.{PlainKey, plain_key, with_log};
+ghost use Rattle.sdb_oplog.specs.declared.codes.Code.TheVariants.{E10};
+ghost use Rattle.sdb_dump.specs.DumpText.{decided_entry, is_text_of_entry};
 ghost use Rattle.sdb_dump.specs.View.{plain_line_content};
-ghost use Rattle.sdb_dump.specs.DumpLine.{read_line};
 ghost use Rattle.sdb_dump.specs.declared.version.DumpVersion.TheVariants.{Two};
-ghost use Rattle.sdb_oplog.specs.Keys.{PlainKey, plain_key};
 ghost use Rattle.sdb_backend.specs.AuditModel.{audit_logs};
-ghost use Rattle.sdb_journal.specs.JournalText.{read_number};
-ghost use Rattle.sdb_store.specs.RestorerModel.{IsRestorer, HasSeenLine, HasStoredLine, HasLineIn, highest_number, number_of_line};
+ghost use Rattle.sdb_backend.specs.HistoryOrder.{IsExtension};
+ghost use Rattle.sdb_backend.specs.PassModel.{next_pass_number, IsHostOfBackend, HostHasSeenLogs};
+ghost use Rattle.sdb_journal.specs.JournalModel.{AppendsEntry, IsNumberRestored};
+ghost use Rattle.sdb_journal.specs.JournalText.{JournalItem, read_number};
+ghost use Rattle.sdb_store.specs.RestorerModel.{IsRestorer, RestorerGrows, HasRestored, HasRestoredLine, IsWrongLine, HasContentOfLine, PassesHaveSeenLines, restorer_logs, highest_number};
+ghost use Rattle.sdb_store.specs.declared.restorer.RestoreFault.TheVariants.{WrongLine};
 
-use sdb_backend::{Audit, Backend, CloseRefused, Host, Pass};
+use sdb_backend::{Audit, Backend, Host, Restoration};
 use sdb_desk::Reply;
-use sdb_dump::{DumpVersion, LineContent, read_line};
-use sdb_journal::{entry_line, read_number};
+use sdb_dump::{DumpVersion, LineContent, is_line_of, read_line};
+use sdb_journal::read_number;
 use sdb_oplog::{Code, Key, Moment, Submission};
-use sdb_submit::Desk;
 use std::alloc::{AllocError, Global};
-use std::sync::Wait;
 use thiserror::Error;
 
 /// The reason why a line isn't restored.
@@ -32,20 +35,22 @@ pub enum RestoreFault {
 }
 
 impl From<AllocError> for RestoreFault {
+    ghost use Rattle.std.specs.Prelude.{◌≡◌};
+    ghost use Rattle.sdb_store.specs.declared.restorer.RestoreFault.TheVariants.{OutOfMemory};
+
+    ghost from_gives = { λ _ fault. fault ≡ OutOfMemory };
+
     fn from(_error: AllocError) -> RestoreFault {
         RestoreFault::OutOfMemory
     }
 }
 
-/// Restores a journal to a new backend: each entry is submitted again, under its number and at its
-/// moment, and its line is compared.
+/// Restores a journal: each entry is submitted again, under its number and at its moment, and its
+/// line is compared. No pass is created, and no lock is acquired.
 #[derive(Drop)]
-pub struct Restorer<R> {
+pub struct Restorer {
     alloc: Global,
-    pub(crate) backend: Backend<R>,
-    pub(crate) host: Host,
-    // The passes of the numbers from 1 on.
-    pub(crate) passes: Vec<Pass>,
+    pub(crate) restoration: Restoration,
     highest: u64,
 }
 
@@ -58,20 +63,22 @@ pub struct RestoredBackend<R> {
     pub highest_number: u64,
 }
 
-impl<R: Wait + Drop> Restorer<R> {
-    /// Creates the restorer of a backend without documents, whose host has created no pass.
-    pub fn new(alloc: Global, backend: Backend<R>, host: Host) -> Restorer<R>
-        requires { IsHostOfBackend host backend }
-        ensures restorer { IsRestorer result }
-        ensures number { highest_number result ≡ 0 }
+impl Restorer {
+    /// Creates a restorer without documents.
+    ///
+    /// # Errors
+    ///
+    /// [`AllocError`] if an allocation fails.
+    pub fn new(alloc: Global) -> Result<Restorer, AllocError>
+        ensures restorer { IfOk result IsRestorer }
+        ensures items { IfOk result (λ r. HasRestored r []) }
     {
-        Restorer {
+        let restoration = Restoration::new(alloc)?;
+        Ok(Restorer {
             alloc,
-            backend,
-            host,
-            passes: Vec::new(alloc),
+            restoration,
             highest: 0,
-        }
+        })
     }
 
     /// Restores the next line.
@@ -79,14 +86,16 @@ impl<R: Wait + Drop> Restorer<R> {
     /// # Errors
     ///
     /// [`RestoreFault::WrongLine`] if it can't be the next one, [`RestoreFault::OutOfMemory`] if an
-    /// allocation fails. The backend then has a part of the journal.
+    /// allocation fails. The restorer then has a part of the journal.
     pub fn restore_line(&mut self, line: &[u8]) -> Result<(), RestoreFault>
         requires { IsRestorer self.old }
         ensures restorer { IsRestorer self.new }
-        ensures not_lower { highest_number self.old ≤ highest_number self.new }
-        ensures number { OnOk result (IfSome (number_of_line line.now) (λ n. n ≤ highest_number self.new)) }
-        ensures stored { OnOk result (IfSome (read_line Two line.now)
-            (λ r. HasStoredLine self.new r.key line.now)) }
+        ensures grows { RestorerGrows self.old self.new }
+        ensures content { OnOk result (HasContentOfLine self.new line.now) }
+        ensures ok { OnOk result ((xs : List JournalItem) → HasRestored self.old xs
+            → HasRestoredLine self.new xs line.now) }
+        ensures err { IfErr result (λ fault. fault ≡ WrongLine → (xs : List JournalItem)
+            → HasRestored self.old xs → IsWrongLine xs line.now) }
     {
         match read_line(self.alloc, DumpVersion::Two, line)? {
             Some(content) => self.restore_entry(line, content),
@@ -94,26 +103,31 @@ impl<R: Wait + Drop> Restorer<R> {
         }
     }
 
-    /// Returns the backend with the restored documents. The host doesn't give the numbers that the
-    /// journal names again.
+    /// Returns the backend with the restored documents. Its passes have numbers above each one that
+    /// the journal names, and each has observed the restored entries.
     ///
     /// # Errors
     ///
     /// [`RestoreFault::OutOfMemory`] if an allocation fails, [`RestoreFault::WrongLine`] if no number
     /// is left.
-    pub fn finish(self) -> Result<RestoredBackend<R>, RestoreFault>
+    pub fn finish<R: Drop>(self, rt: R) -> Result<RestoredBackend<R>, RestoreFault>
         requires { IsRestorer self }
         ensures host { IfOk result (λ r. IsHostOfBackend r.host r.backend) }
-        ensures highest { IfOk result (λ r. r.highest_number ≡ highest_number self) }
-        ensures numbers { IfOk result (λ r. r.highest_number < next_pass_number r.host) }
+        ensures numbers { IfOk result (λ r. (r.highest_number ≡ highest_number self)
+            × (next_pass_number r.host ≡ highest_number self + 1)) }
+        ensures logs { IfOk result (λ r. HostHasSeenLogs r.host (restorer_logs self)) }
+        ensures seen { IfOk result (λ r. PassesHaveSeenLines self r.host) }
+        ensures err { IfErr result (λ fault. fault ≡ WrongLine → highest_number self ≡ u64.MAX) }
     {
         let Restorer {
-            backend,
-            mut host,
+            restoration,
             highest,
             ..
         } = self;
-        skip_numbers(&backend, &mut host, highest)?;
+        let Some(next) = highest.checked_add(1) else {
+            return Err(RestoreFault::WrongLine);
+        };
+        let (backend, host) = restoration.into_backend(rt, next)?;
         Ok(RestoredBackend {
             backend,
             host,
@@ -121,30 +135,20 @@ impl<R: Wait + Drop> Restorer<R> {
         })
     }
 
-    /// Closes the backend, and returns its stored operations.
-    ///
-    /// # Errors
-    ///
-    /// As [`Backend::close`]. No pass is missing, but this isn't stated.
-    pub fn close(self) -> Result<Audit, CloseRefused<R>>
-        requires { IsRestorer self }
-        ensures stored { IfOk result (λ a. (k : PlainKey) (line : List ℕ) → HasStoredLine self k line
-            → HasLineIn (audit_logs a k) k line) }
+    /// Returns the audit of the restored documents.
+    pub fn into_audit(self) -> Audit
+        ensures { audit_logs result ≡ restorer_logs self }
     {
-        let Restorer {
-            backend,
-            host,
-            passes,
-            ..
-        } = self;
-        backend.close(host, passes)
+        let Restorer { restoration, .. } = self;
+        restoration.into_audit()
     }
 
     fn restore_number(&mut self, line: &[u8]) -> Result<(), RestoreFault>
-        requires { IsRestorer self.old }
-        ensures restorer { IsRestorer self.new }
+        ensures documents { self.new.restoration ≡ self.old.restoration }
         ensures not_lower { highest_number self.old ≤ highest_number self.new }
-        ensures number { OnOk result (IfSome (read_number line.now) (λ n. n ≤ highest_number self.new)) }
+        ensures ok { OnOk result (IsNumberRestored true (read_number line.now) (highest_number self.old)
+            (highest_number self.new)) }
+        ensures err { IfErr result (λ fault. fault ≡ WrongLine → read_number line.now ≡ None) }
     {
         match read_number(self.alloc, line)? {
             Some(number) => {
@@ -158,160 +162,85 @@ impl<R: Wait + Drop> Restorer<R> {
     fn restore_entry(&mut self, line: &[u8], content: LineContent) -> Result<(), RestoreFault>
         requires { IsRestorer self.old }
         ensures restorer { IsRestorer self.new }
-        ensures not_lower { highest_number self.old ≤ highest_number self.new }
-        ensures number { (plain_line_content content).submission.by ≤ highest_number self.new }
-        ensures stored { OnOk result (HasStoredLine self.new (plain_line_content content).key line.now) }
+        ensures extended { (k : PlainKey) → IsExtension (restorer_logs self.new k) (restorer_logs self.old k) }
+        ensures highest { highest_number self.new
+            ≡ max (highest_number self.old) (plain_line_content content).submission.by }
+        ensures ok { OnOk result (AppendsEntry line.now (plain_line_content content) (restorer_logs self.old)
+            (restorer_logs self.new) true) }
+        ensures err { IfErr result (λ fault. fault ≡ WrongLine
+            → ((plain_line_content content).submission.by ≡ 0)
+            ⊎ AppendsEntry line.now (plain_line_content content) (restorer_logs self.old)
+            (restorer_logs self.new) false) }
     {
         let LineContent {
             key,
             submission,
             moment,
         } = content;
-        let number = submission.by();
-        self.highest = self.highest.max(number);
-        self.enter_up_to(number)?;
-        let position = number.saturating_sub(1) as usize;
-        if position >= self.passes.len() {
+        self.highest = self.highest.max(submission.by());
+        if submission.by() == 0 {
             return Err(RestoreFault::WrongLine);
         }
-        self.submit_at(position, line, &key, &submission, moment)
+        let version = self.submit(&key, &submission, moment)?;
+        if self.has_line(line, &key, version, moment)? {
+            Ok(())
+        } else {
+            Err(RestoreFault::WrongLine)
+        }
     }
 
-    // Submits an entry with the pass at a position, and compares its line.
-    fn submit_at(
+    // Submits an entry under its number, and returns its version.
+    fn submit(
         &mut self,
-        position: usize,
-        line: &[u8],
         key: &Key,
         submission: &Submission,
         moment: Moment,
-    ) -> Result<(), RestoreFault>
+    ) -> Result<u64, RestoreFault>
         requires restorer { IsRestorer self.old }
-        requires position { position < vec_len self.old.passes }
+        requires number { (0 < submission.now.by) × (submission.now.by ≤ highest_number self.old) }
         ensures restorer { IsRestorer self.new }
-        ensures number_unchanged { highest_number self.new ≡ highest_number self.old }
-        ensures stored { OnOk result (HasStoredLine self.new (plain_key key.now) line.now) }
+        ensures highest { highest_number self.new ≡ highest_number self.old }
+        ensures extended { (k : PlainKey) → IsExtension (restorer_logs self.new k) (restorer_logs self.old k) }
+        ensures ok { IfOk result (λ v. let log = restorer_logs self.old (plain_key key.now) in
+            (v ≡ length log) × (restorer_logs self.new
+            ≡ with_log (restorer_logs self.old) (plain_key key.now) (decide log submission.now moment).log)) }
+        ensures err { IfErr result (λ fault. fault ≡ WrongLine
+            → decided_entry (restorer_logs self.old (plain_key key.now)) submission.now moment ≡ None) }
     {
-        let backend = &self.backend;
-        let pass = &mut self.passes[position];
-        submit_line(self.alloc, backend, pass, line, key, submission, moment)
-    }
-
-    // Creates the passes up to a number.
-    fn enter_up_to(&mut self, number: u64) -> Result<(), RestoreFault>
-        requires { IsRestorer self.old }
-        ensures restorer { IsRestorer self.new }
-        ensures number_unchanged { highest_number self.new ≡ highest_number self.old }
-    {
-        for _ in self.host.next()..number.saturating_add(1) {
-            self.enter_next()?;
+        match self.restoration.commit(key, submission, moment) {
+            Reply::Stored { v, .. } => Ok(v),
+            Reply::Repeat { .. } => Err(RestoreFault::WrongLine),
+            Reply::Refused(code) => Err(refusal_fault(code)),
         }
-        Ok(())
     }
 
-    fn enter_next(&mut self) -> Result<(), RestoreFault>
-        requires { IsRestorer self.old }
-        ensures restorer { IsRestorer self.new }
-        ensures number_unchanged { highest_number self.new ≡ highest_number self.old }
+    // Returns whether the entry at a version has this moment and this line.
+    fn has_line(
+        &self,
+        line: &[u8],
+        key: &Key,
+        version: u64,
+        moment: Moment,
+    ) -> Result<bool, AllocError>
+        ensures { IfOk result (λ b. b ≡ option_map_or (is_text_of_entry Two line.now (plain_key key.now) moment)
+            (slice_get (restorer_logs self.now (plain_key key.now)) version) false) }
     {
-        self.passes.reserve(1)?;
-        let pass = enter(&self.backend, &mut self.host)?;
-        self.passes.push_reserved(pass);
-        Ok(())
+        let Some(log) = self.restoration.log(key) else {
+            return Ok(false);
+        };
+        match log.get(version) {
+            Some(entry) => is_line_of(self.alloc, DumpVersion::Two, line, key, entry, moment),
+            None => Ok(false),
+        }
     }
 }
 
-// Creates the passes of the numbers up to the highest one, and drops them.
-fn skip_numbers<R: Drop>(
-    backend: &Backend<R>,
-    host: &mut Host,
-    highest: u64,
-) -> Result<(), RestoreFault>
-    requires { IsHostOfBackend host.old backend.now }
-    ensures host { IsHostOfBackend host.new backend.now }
-    ensures number { OnOk result (highest < next_pass_number host.new) }
+// Returns the fault of a refused submission. E10 is an allocation failure.
+fn refusal_fault(code: Code) -> RestoreFault
+    ensures { result ≡ WrongLine → code ≢ E10 }
 {
-    let Some(end) = highest.checked_add(1) else {
-        return Err(RestoreFault::WrongLine);
-    };
-    for _ in host.next()..end {
-        enter(backend, host)?;
-    }
-    Ok(())
-}
-
-fn enter<R: Drop>(backend: &Backend<R>, host: &mut Host) -> Result<Pass, RestoreFault>
-    requires { IsHostOfBackend host.old backend.now }
-    ensures host { IsHostOfBackend host.new backend.now }
-    ensures pass { IfOk result (λ p. IsPassOfBackend p backend.now × (pass_number p ≡ next_pass_number host.old)) }
-    ensures next { OnOk result (next_pass_number host.new ≡ next_pass_number host.old + 1) }
-{
-    match backend.enter(host) {
-        Ok(pass) => Ok(pass),
-        Err(Code::E10) => Err(RestoreFault::OutOfMemory),
-        Err(_) => Err(RestoreFault::WrongLine),
-    }
-}
-
-// Submits an entry, and compares its line.
-fn submit_line<R: Wait + Drop>(
-    alloc: Global,
-    backend: &Backend<R>,
-    pass: &mut Pass,
-    line: &[u8],
-    key: &Key,
-    submission: &Submission,
-    moment: Moment,
-) -> Result<(), RestoreFault>
-    requires { IsPassOfBackend pass.old backend.now }
-    ensures pass { IsPassOfBackend pass.new backend.now }
-    ensures seen { OnOk result (HasSeenLine pass.new (plain_key key.now) line.now) }
-{
-    let version = submit_entry(backend, pass, key, submission, moment)?;
-    compare_line(alloc, backend, pass, key, version, line)
-}
-
-// Submits an entry under its number, and returns its version.
-fn submit_entry<R: Wait + Drop>(
-    backend: &Backend<R>,
-    pass: &mut Pass,
-    key: &Key,
-    submission: &Submission,
-    moment: Moment,
-) -> Result<u64, RestoreFault>
-    requires { IsPassOfBackend pass.old backend.now }
-    ensures { IsPassOfBackend pass.new backend.now }
-{
-    if pass.number() != submission.by() {
-        return Err(RestoreFault::WrongLine);
-    }
-    match backend.commit_now(pass, key, submission, moment) {
-        Reply::Stored { v, .. } => Ok(v),
-        Reply::Refused(Code::E10) => Err(RestoreFault::OutOfMemory),
-        _ => Err(RestoreFault::WrongLine),
-    }
-}
-
-// Compares the line of the entry at a version.
-fn compare_line<R: Wait + Drop>(
-    alloc: Global,
-    backend: &Backend<R>,
-    pass: &mut Pass,
-    key: &Key,
-    version: u64,
-    line: &[u8],
-) -> Result<(), RestoreFault>
-    requires { IsPassOfBackend pass.old backend.now }
-    ensures pass { IsPassOfBackend pass.new backend.now }
-    ensures seen { OnOk result (HasSeenLine pass.new (plain_key key.now) line.now) }
-{
-    let entries = backend.ops_between(pass, key, version, version.saturating_add(1))?;
-    let Some(entry) = entries.first() else {
-        return Err(RestoreFault::WrongLine);
-    };
-    if entry_line(alloc, key, entry)?.as_slice() == line {
-        Ok(())
-    } else {
-        Err(RestoreFault::WrongLine)
+    match code {
+        Code::E10 => RestoreFault::OutOfMemory,
+        _ => RestoreFault::WrongLine,
     }
 }

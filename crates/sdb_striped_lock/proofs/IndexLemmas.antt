@@ -1,8 +1,9 @@
 -- Items that are set at an index of a list, or appended.
-use Rattle.std.proofs.Common.{◌≡◌, ◌≢◌, ℕ, ◌+◌, ◌<◌, ◌≤◌, ◌⊎◌, inl, inr, true, false, nat_eq, List, [], ◌∷◌, ◌++◌, length, length-append, slice_index_or, slice_set, sym, ap, ◌∙◌, subst, arith}
+use Rattle.std.proofs.Common.{◌≡◌, ◌≢◌, ℕ, zero, suc, Result, Ok, Err, IfOk, ◌+◌, ◌<◌, ◌≤◌, ◌⊎◌, inl, inr, true, false, nat_eq, List, [], ◌∷◌, ◌++◌, length, length-append, append-nil, slice_index_or, slice_set, sym, ap, ◌∙◌, subst, arith}
 use Rattle.std.proofs.Math.Seq.{get_or-append_seam}
 use Rattle.std.proofs.lemmas.Bool.Decides.{eqb_tells}
 use Rattle.std.proofs.lemmas.List.{get_or_default, get_or-set_same, get_or-set_other, get_or_append_left}
+use Rattle.sdb_growlock.specs.LockRule.{ForEach}
 use Rattle.sdb_striped_lock.specs.AtIndex.{AtEachIndex}
 
 -- the item at an index, for any default
@@ -53,6 +54,34 @@ module _ {A : Type 0} (xs init orig : List A) (x : A) (e : xs ≡ init ++ x ∷ 
   get_or_pop i d lt =
       let n = length_of_pop in
       sym (get_or_append_left init (x ∷ []) d i lt) ∙ ap (λ (l : List A). slice_index_or l i d) (sym e) ∙ same i d (omega (arith, n, lt))
+
+-- a property of each item of a list, at the seam of two parts
+pub for_each_at_seam : {A : Type 0} (P : A → Type 0) (xs ys : List A) (x : A) → ForEach P (xs ++ x ∷ ys) → P x
+for_each_at_seam P [] ys x h = h.0
+for_each_at_seam P (y ∷ xs) ys x h = for_each_at_seam P xs ys x h.1
+
+-- a property of each item of a list, and of one that is appended
+pub for_each_of_push : {A : Type 0} (P : A → Type 0) (xs : List A) (x : A) → ForEach P xs → P x → ForEach P (xs ++ x ∷ [])
+for_each_of_push P [] x h here = (here, tt)
+for_each_of_push P (y ∷ xs) x h here = (h.0, for_each_of_push P xs x h.1 here)
+
+pub for_each_mono : {A : Type 0} (P Q : A → Type 0) → ((x : A) → P x → Q x) → (xs : List A) → ForEach P xs → ForEach Q xs
+for_each_mono P Q f [] h = tt
+for_each_mono P Q f (x ∷ xs) h = (f x h.0, for_each_mono P Q f xs h.1)
+
+pub for_each_at : {A : Type 0} (P : A → Type 0) (xs : List A) (i : ℕ) (d : A) → i < length xs → ForEach P xs → P (slice_index_or xs i d)
+for_each_at P [] i d lt h = absurd (omega (arith, lt))
+for_each_at P (x ∷ xs) zero d lt h = h.0
+for_each_at P (x ∷ xs) (suc i) d lt h = for_each_at P xs i d (omega (arith, lt)) h.1
+
+pub if_ok_mono : {A E : Type 0} {P Q : A → Type 0} (r : Result A E) → ((x : A) → P x → Q x) → IfOk r P → IfOk r Q
+if_ok_mono (Ok x) f h = f x h
+if_ok_mono (Err e) f h = tt
+
+-- a list that was read to its end
+pub all_of_done : {A : Type 0} (done rest all : List A) → done ++ rest ≡ all → length rest ≡ 0 → done ≡ all
+all_of_done done [] all e none = sym (append-nil done) ∙ e
+all_of_done done (x ∷ rest) all e none = absurd (omega (arith, none))
 
 -- two items that are appended to two lists of one length
 pub at_each_of_push : {A B : Type 0} (P : A → B → Type 0) (xs : List A) (ys : List B) (m : ℕ) (x : A) (y : B) → length xs ≡ m → length ys ≡ m → AtEachIndex P xs ys 0 m → P x y

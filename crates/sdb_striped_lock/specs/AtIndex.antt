@@ -1,5 +1,5 @@
 -- Facts about each index of some lists. The default for an index outside a list doesn't matter.
-use Rattle.std.specs.Prelude.{◌≡◌, ℕ, ◌<◌, ◌≤◌, List, slice_index_or}
+use Rattle.std.specs.Prelude.{ℕ, ◌<◌, ◌≤◌, List, slice_index_or}
 use Rattle.sdb_growlock.specs.SeatModel.{HasSeen, number}
 use Rattle.sdb_growlock.specs.declared.grow_lock.Seat.{Seat}
 

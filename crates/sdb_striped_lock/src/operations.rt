@@ -43,10 +43,37 @@ impl<T: Empty + Drop> StripedLock<T> {
         ensures seen { IfOk result (λ made. (i : ℕ) → i < 8 → (x : T) × RootSeatsHaveSeen made.1 i x
             × ((k : ℕ) → T.blank k x)) }
     {
+        let mut values = Vec::with_capacity(alloc, STRIPES)?;
+        for _index in 0..STRIPES {
+            values.push_reserved(T::empty(alloc));
+        }
+        StripedLock::restored(alloc, values, 1)
+    }
+}
+
+impl<T: Grows + Drop> StripedLock<T> {
+    /// Creates eight locks around the values, in order, and their first seats. The first caller gets
+    /// the number `next`. Parts of lower numbers belong to no caller.
+    ///
+    /// # Errors
+    ///
+    /// [`AllocError`] if an allocation fails.
+    pub fn restored(
+        alloc: Global,
+        values: Vec<T>,
+        next: u64,
+    ) -> Result<(StripedLock<T>, RootSeats<T>), AllocError>
+        requires length { length values.items ≡ 8 }
+        requires first { 0 < next }
+        requires blank { ForEach (λ v. (k : ℕ) → next ≤ k → T.blank k v) values.items }
+        ensures belongs { IfOk result (λ made. AreRootSeatsOf made.1 made.0 × (next_seat_set_number made.1 ≡ next)) }
+        ensures seen { IfOk result (λ made. (i : ℕ) (d : T) → i < 8
+            → RootSeatsHaveSeen made.1 i (slice_index_or values.items i d)) }
+    {
         let mut locks = Vec::with_capacity(alloc, STRIPES)?;
         let mut seats = Vec::with_capacity(alloc, STRIPES)?;
-        for _index in 0..STRIPES {
-            match GrowLock::new(alloc, T::empty(alloc)) {
+        for value in values {
+            match GrowLock::new(alloc, value, next) {
                 Ok((lock, seat)) => {
                     locks.push_reserved(lock);
                     seats.push_reserved(seat);
@@ -54,7 +81,7 @@ impl<T: Empty + Drop> StripedLock<T> {
                 Err(_value) => return Err(AllocError),
             }
         }
-        Ok((StripedLock { locks }, RootSeats { next: 1, seats }))
+        Ok((StripedLock { locks }, RootSeats { next, seats }))
     }
 }
 

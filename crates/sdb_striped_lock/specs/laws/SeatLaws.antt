@@ -1,5 +1,5 @@
 -- Laws of seats: the observed value at an index, and replaced seats.
-use Rattle.std.proofs.Common.{◌≡◌, ◌≢◌, ℕ, ◌+◌, ◌<◌, ◌≤◌, ◌⊎◌, inl, inr, true, false, nat_eq, List, [], ◌∷◌, ◌++◌, length, slice_index_or, slice_set, sym, ap, ◌∙◌, subst, arith}
+use Rattle.std.proofs.Common.{◌≡◌, ℕ, ◌<◌, List, [], ◌∷◌, length, slice_index_or, subst, arith}
 use Rattle.std.proofs.lemmas.List.{get_or_default}
 use Rattle.sdb_growlock.specs.declared.grow_lock.Seat.{Seat}
 use Rattle.sdb_growlock.specs.SeatModel.{HasSeen}

@@ -27,4 +27,7 @@ pub returns-in-Err-OutOfMemory-clause-host : goal.returns-in-Err-OutOfMemory-cla
 returns-in-Err-OutOfMemory-clause-host g c = subst (λ (f : RootSeats Held). HasRootSeatsOf (record { seats = f }) c.args.self.now.locks) (sym c.in-Err-OutOfMemory.ensures.unchanged_on_err) c.requires
 
 pub returns-in-Ok-clause-seen : goal.returns-in-Ok-clause-seen
-returns-in-Ok-clause-seen g c = λ i lt. let s = c.in-Ok.ensures.seen i lt in (s.0, s.1, s.3)
+returns-in-Ok-clause-seen g c = (
+  λ i lt. let s = c.in-Ok.ensures.seen i lt in (s.0, s.1, s.3),
+  λ i lt. let s = c.in-Ok.ensures.seen i lt in (s.0, s.2, s.3),
+)

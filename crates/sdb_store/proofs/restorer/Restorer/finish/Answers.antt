@@ -1,0 +1,20 @@
+use Rattle.std.proofs.Common.{sym, subst, arith}
+use Rattle.sdb_journal.specs.StoreMachine.{IsIn}
+use Rattle.sdb_backend.specs.RestorationLaws.{pass_sees_logs}
+use Rattle.sdb_store.specs.RestorerModel.{restorer_logs}
+use Rattle.sdb_store.proofs.restorer.Restorer.finish.Goals as goal
+
+pub into_backend-requires-clause-no_share : goal.into_backend-requires-clause-no_share
+into_backend-requires-clause-no_share g c = λ n from. let next = c.in-Some.ensures.1 in c.requires.above n (omega (arith, next, from))
+
+pub returns-clause-seen : goal.returns-clause-seen
+returns-clause-seen g c =
+    λ p k line saw stored.
+    let x = pass_sees_logs p c.in_ok-backend.host (restorer_logs c.args.self) saw c.in_ok-backend.ensures.logs k in
+    record {
+      history = x.0;
+      entry = stored.entry;
+      seen = x.1;
+      stored = subst (IsIn stored.entry) (sym x.2) stored.stored;
+      line_is = stored.line_is;
+    }
