@@ -27,9 +27,6 @@ use std::alloc::{AllocError, Global};
 /// Maximum number of subscriptions of one session.
 pub const SUBSCRIPTION_LIMIT: usize = 64;
 
-// Maximum length in bytes of a message whose scratch memory is kept.
-const SCRATCH_LIMIT: usize = 4_096;
-
 /// The state of a session that failed to allocate for a message, a name or an answer.
 #[derive(Clone, Copy, Drop)]
 pub struct Ended {
@@ -63,8 +60,6 @@ pub struct Session {
     pub(crate) subscriptions: IndexMap<Key, Subscription>,
     pub(crate) names: NameInterner,
     pub(crate) last_path: PathInterner,
-    // Scratch memory of the parser, kept between messages.
-    scratch: Option<Box<Scratch>>,
     pub(crate) ended: Option<Ended>,
 }
 
@@ -87,7 +82,6 @@ impl Session {
             subscriptions: IndexMap::new(alloc),
             names: NameInterner::new(alloc),
             last_path: PathInterner::new(),
-            scratch: None,
             ended: None,
         }
     }
@@ -272,52 +266,28 @@ impl Session {
             (D.pass_number desk.now pass.old) now (plain_session self.old) pass.old (progress_result result)
             (WroteAnswers O.items (O.contents out.old) (O.contents out.new)) (plain_session self.new) pass.new }
     {
-        let mut scratch = self.take_scratch()?;
-        let progress = {
-            let Message { json, request } = parse_message(self.alloc, text, &mut scratch)?;
-            let message = json.as_ref();
-            let context = Context {
-                alloc: self.alloc,
-                desk,
-                table: policy.table(),
-                policy,
-                message,
-                moment: now,
-            };
-            match request {
-                Ok(request) => match self.answer_request(&context, pass, request, out)? {
-                    Some(listing) => Progress::Listing(listing),
-                    None => Progress::Done { is_request: true },
-                },
-                Err(code) => {
-                    write_refusal(self.alloc, message, code, out)?;
-                    Progress::Done { is_request: false }
-                }
+        let mut scratch = Scratch::new(self.alloc);
+        let Message { json, request } = parse_message(self.alloc, text, &mut scratch)?;
+        let message = json.as_ref();
+        let context = Context {
+            alloc: self.alloc,
+            desk,
+            table: policy.table(),
+            policy,
+            message,
+            moment: now,
+        };
+        let progress = match request {
+            Ok(request) => match self.answer_request(&context, pass, request, out)? {
+                Some(listing) => Progress::Listing(listing),
+                None => Progress::Done { is_request: true },
+            },
+            Err(code) => {
+                write_refusal(self.alloc, message, code, out)?;
+                Progress::Done { is_request: false }
             }
         };
-        self.put_scratch_back(scratch, text);
         Ok(progress)
-    }
-
-    // Returns scratch memory: that of the last message, or a new one.
-    fn take_scratch(&mut self) -> Result<Box<Scratch>, AllocError>
-        ensures session { plain_session self.new ≡ plain_session self.old }
-        ensures ended_unchanged { self.new.ended ≡ self.old.ended }
-    {
-        match self.scratch.take() {
-            Some(scratch) => Ok(scratch),
-            None => box_scratch(self.alloc),
-        }
-    }
-
-    // Keeps the scratch memory for the next message, unless the message was long.
-    fn put_scratch_back(&mut self, scratch: Box<Scratch>, text: &str)
-        ensures session { plain_session self.new ≡ plain_session self.old }
-        ensures ended_unchanged { self.new.ended ≡ self.old.ended }
-    {
-        if text.len() <= SCRATCH_LIMIT {
-            self.scratch = Some(scratch);
-        }
     }
 
     /// Writes E1, with an empty echo, as the answer to a message that is too long, not UTF-8 or
@@ -353,8 +323,4 @@ impl Session {
         self.ended = Some(ended);
         ended
     }
-}
-
-fn box_scratch(alloc: Global) -> Result<Box<Scratch>, AllocError> {
-    Ok(Box::new(alloc, Scratch::new(alloc))?)
 }

@@ -21,5 +21,5 @@ returns-clause-outcome g c =
     let says = WroteAnswers g.O.AnswerSink.items (g.O.AnswerSink.contents c.args.out.now) (g.O.AnswerSink.contents c.match-request.out) in
     let Part : List PlainProjection → Type 0 = λ t.
     TextPart (g.D.Desk.step c.args.desk.now) c.args.text.now (record { projections = t; allows = pol.allows }) (g.D.Desk.pass_number c.args.desk.now c.args.pass.now) c.args.now (plain_session c.args.self.now) c.args.pass.now
-    (progress_result {E = AllocError} (Ok c.match-request.progress)) says (plain_session c.put_scratch_back.new.self) c.match-request.pass in
+    (progress_result {E = AllocError} (Ok c.match-request.progress)) says (plain_session c.match-request.self) c.match-request.pass in
     subst Part c.table.ensures (search rules)
