@@ -8,6 +8,5 @@ pub mod ReplayBases
 pub mod PassModel
 pub mod PassRuns
 pub mod RestorationModel
-pub mod RestorationLaws
 pub mod UnsavedEntries
 pub mod laws

@@ -1,1 +1,2 @@
 pub mod ListingLaws
+pub mod RestorationLaws

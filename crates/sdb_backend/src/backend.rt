@@ -147,9 +147,9 @@ impl<R: Drop> Backend<R> {
     ///
     /// # Errors
     ///
-    /// [`CloseError::MissingPass`] if a pass is missing, [`CloseError::OutOfMemory`] if an
-    /// allocation fails. [`CloseRefused`] returns all arguments unchanged, except for the order of
-    /// the passes.
+    /// [`CloseError::MissingPass`] if a pass is missing, as those of the numbers before a
+    /// [restoration](crate::Restoration) are. [`CloseError::OutOfMemory`] if an allocation fails.
+    /// [`CloseRefused`] returns all arguments unchanged, except for the order of the passes.
     ///
     /// ```
     /// let mut passes = Vec::with_capacity(alloc, 1)?;

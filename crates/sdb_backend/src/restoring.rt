@@ -45,10 +45,9 @@ impl Restoration {
         })
     }
 
-    /// Decides a submission at a moment, in one step, as [`Shard::commit_now`] does in the shard of the
-    /// key. `Refused(E10)` is an allocation failure, and nothing changes.
-    ///
-    /// [`Shard::commit_now`]: sdb_desk::Shard::commit_now
+    /// Decides a submission at a moment, in one step, as
+    /// [`Shard::commit_now`](sdb_desk::Shard::commit_now) does in the shard of the key. `Refused(E10)`
+    /// is an allocation failure, and nothing changes.
     pub fn commit(&mut self, key: &Key, submission: &Submission, now: Moment) -> Reply
         ensures decides { RestoresSubmission (plain_key key.now) submission.now now (plain_reply result)
             self.old self.new }

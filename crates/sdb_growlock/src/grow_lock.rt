@@ -26,8 +26,8 @@ pub struct GrowLock<T: Grows> {
 }
 
 /// The right to acquire one lock, under a unique number: 0 for the first seat, then from the lock's
-/// `next` on, one more for each split. A seat records the last value that it observed (`HasSeen`), which each later value
-/// extends.
+/// `next` on, one more for each split. A seat records the last value that it observed (`HasSeen`),
+/// which each later value extends.
 ///
 /// ```
 /// // One seat for each thread, split from the lock's first seat.

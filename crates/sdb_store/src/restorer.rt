@@ -47,6 +47,13 @@ impl From<AllocError> for RestoreFault {
 
 /// Restores a journal: each entry is submitted again, under its number and at its moment, and its
 /// line is compared. No pass is created, and no lock is acquired.
+///
+/// ```
+/// let mut restorer = Restorer::new(alloc)?;
+/// restorer.restore_line(b"{\"given\":1024}")?;
+/// let RestoredBackend { backend, mut host, .. } = restorer.finish(rt)?;
+/// assert_eq!(rt; backend.enter(&mut host)?.number(), 1025);
+/// ```
 #[derive(Drop)]
 pub struct Restorer {
     alloc: Global,

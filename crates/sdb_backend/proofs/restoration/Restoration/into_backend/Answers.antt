@@ -3,7 +3,7 @@ use Rattle.std.proofs.lemmas.Option.{slice_get_within, get_or_from_slice_get}
 use Rattle.sdb_oplog.specs.Keys.{shard_of}
 use Rattle.sdb_striped_lock.specs.SeatSetModel.{RootSeatsHaveSeen}
 use Rattle.sdb_backend.proofs.ReplacedItem.{for_each_item, item_below}
-use Rattle.sdb_backend.specs.RestorationLaws.{shard_below}
+use Rattle.sdb_backend.specs.laws.RestorationLaws.{shard_below}
 use Rattle.sdb_backend.proofs.RestoredLogs.{log_of_item}
 use Rattle.sdb_backend.proofs.restoration.Restoration.into_backend.Goals as goal
 

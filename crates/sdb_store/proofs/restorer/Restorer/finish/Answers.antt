@@ -1,6 +1,6 @@
 use Rattle.std.proofs.Common.{sym, subst, arith}
 use Rattle.sdb_journal.specs.StoreMachine.{IsIn}
-use Rattle.sdb_backend.specs.RestorationLaws.{pass_sees_logs}
+use Rattle.sdb_backend.specs.laws.RestorationLaws.{pass_sees_logs}
 use Rattle.sdb_store.specs.RestorerModel.{restorer_logs}
 use Rattle.sdb_store.proofs.restorer.Restorer.finish.Goals as goal
 
