@@ -36,6 +36,7 @@ use Rattle.sdb_event_loop.specs.contracts.polled_loop.PolledLoop as PolledLoop
 use Rattle.sdb_event_loop.specs.contracts.polled_loop.LoopRunner as LoopRunner
 use Rattle.sdb_event_loop.specs.contracts.loop_slot.LoopSlot as LoopSlot
 use Rattle.sdb_event_loop.specs.contracts.loop_slots.LoopSlots as LoopSlots
+use Rattle.sdb_event_loop.specs.contracts.loop_slots.Waiting as Waiting
 use Rattle.sdb_session.specs.contracts.session.Session as Session
 use Rattle.sdb_session.specs.contracts.listing.Listing as Listing
 
@@ -176,11 +177,14 @@ module _ (R P B : RattleType) (g : brand.Ghosts B.Denot) where
   LoopSlot-sync : IsSend R → IsSync R → IsSend P → IsSync P → IsSend B → IsSync (LoopSlot.the_row R P B g)
   LoopSlot-sync s y p q b = declared_sync (LoopSlot.the_type R P B g) (search (sendable, crosses, PolledLoop-send, EndedTurn-send) depth 40)
 
+  Waiting-send : IsSend Waiting.the_row
+  Waiting-send = declared_send Waiting.the_type (search (crosses, sendable) depth 20)
+
   pub LoopSlots-send : IsSend R → IsSync R → IsSend P → IsSync P → IsSend B → IsSend (LoopSlots.the_row R P B g)
-  LoopSlots-send s y p q b = declared_send (LoopSlots.the_type R P B g) (search (sendable, crosses, LoopSlot-send, LoopPass-send) depth 40)
+  LoopSlots-send s y p q b = declared_send (LoopSlots.the_type R P B g) (search (sendable, crosses, LoopSlot-send, LoopPass-send, Waiting-send) depth 40)
 
   pub LoopSlots-sync : IsSend R → IsSync R → IsSend P → IsSync P → IsSend B → IsSync (LoopSlots.the_row R P B g)
-  LoopSlots-sync s y p q b = declared_sync (LoopSlots.the_type R P B g) (search (sendable, crosses, LoopSlot-sync, LoopPass-send) depth 40)
+  LoopSlots-sync s y p q b = declared_sync (LoopSlots.the_type R P B g) (search (sendable, crosses, LoopSlot-sync, LoopPass-send, Waiting-send) depth 40)
 
   pub LoopRunner-send : IsSend R → IsSync R → IsSend P → IsSync P → IsSend B → IsSend (LoopRunner.the_row R P B g)
   LoopRunner-send s y p q b = declared_send (LoopRunner.the_type R P B g) (search (sendable, crosses, LoopContext-send, LoopSlots-send, LoopSlots-sync, LoopBuffers-send) depth 40)

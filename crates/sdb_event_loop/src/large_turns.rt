@@ -6,7 +6,7 @@ pub(crate) const LARGE_INPUT: usize = 64 * 1_024;
 
 /// Maximum number of large turns at once. A message takes up to 170 times its length while it is
 /// parsed.
-pub(crate) const LARGE_TURN_LIMIT: u64 = 4;
+pub(crate) const LARGE_TURN_LIMIT: u64 = 2;
 
 // A bit for each of these turns.
 const ALL_PLACES: u64 = (1 << LARGE_TURN_LIMIT) - 1;

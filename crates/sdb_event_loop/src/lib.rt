@@ -8,7 +8,7 @@
 //! milliseconds, a spare thread continues the loop. There are 32 spare threads. While more clients
 //! than these are answered for long, their loops wait.
 //!
-//! Parsing takes up to 170 times the length of a message. So at most four clients with 64 KiB or more
+//! Parsing takes up to 170 times the length of a message. So at most two clients with 64 KiB or more
 //! of unanswered input are served at once. Others wait, without holding up a loop.
 #![tactic(auto)]
 

@@ -6,21 +6,30 @@ use sdb_session::Policy;
 use std::alloc::{AllocError, Global};
 use std::collections::VecDeque;
 use std::sync::atomic::{AtomicBool, AtomicUsize, Ordering};
-use std::sync::{Condvar, Mutex, Wait};
+use std::sync::{Mutex, Wait};
 use std::thread::Parker;
 use std::time::Duration;
 
 // Longest time in seconds for which the watcher is parked.
 const WATCHER_PAUSE_SECONDS: u64 = 1;
 
+// The numbers of the loops that wait for a thread, and of the threads that wait for a loop. The thread
+// that began to wait last gets the next loop: the allocator keeps the memory that a thread has freed,
+// so as few threads as possible are used.
+#[derive(Drop)]
+struct Waiting {
+    loops: VecDeque<usize>,
+    threads: Vec<usize>,
+}
+
 /// The loops of a run. Each is run by one thread at a time, and any thread can continue one that is
 /// in its slot.
 #[derive(Drop)]
 pub(crate) struct LoopSlots<R, P, B: PassBrand> {
     slots: Vec<LoopSlot<R, P, B>>,
-    // The numbers of the loops that wait for a thread.
-    waiting: Mutex<VecDeque<usize>>,
-    has_waiting: Condvar,
+    waiting: Mutex<Waiting>,
+    // By the number of a thread, where it parks while it waits for a loop.
+    parkers: Vec<Parker>,
     // Number of loops that haven't ended.
     running_count: AtomicUsize,
     // The passes of the loops that have ended.
@@ -31,23 +40,21 @@ pub(crate) struct LoopSlots<R, P, B: PassBrand> {
 }
 
 impl<R: Drop, P: Policy + Drop, B: PassBrand> LoopSlots<R, P, B> {
-    /// Creates the slots of this number of loops, for at most this number of turns at once. Fails
-    /// only if an allocation fails.
+    /// Creates the slots of this number of loops, for this number of threads, of which each has at most
+    /// one turn at once. Fails only if an allocation fails.
     pub(crate) fn new(
         alloc: Global,
         loops: usize,
-        turns: usize,
+        threads: usize,
     ) -> Result<LoopSlots<R, P, B>, AllocError> {
         let mut slots = Vec::with_capacity(alloc, loops)?;
         for _ in 0..loops {
-            slots.push(LoopSlot::new(alloc, turns)?)?;
+            slots.push(LoopSlot::new(alloc, threads)?)?;
         }
-        let mut waiting = VecDeque::with_capacity(alloc, loops)?;
-        waiting.extend(0..loops)?;
         Ok(LoopSlots {
             slots,
-            waiting: Mutex::new(waiting),
-            has_waiting: Condvar::new(),
+            waiting: Mutex::new(Waiting::new(alloc, loops, threads)?),
+            parkers: parkers_of(alloc, threads)?,
             running_count: AtomicUsize::new(loops),
             passes: Mutex::new(Vec::with_capacity(alloc, loops)?),
             watcher: Parker::new(),
@@ -80,25 +87,26 @@ impl<R: Drop, P: Policy + Drop, B: PassBrand> LoopSlots<R, P, B> {
     }
 
     /// Waits for a loop that needs a thread, and returns its number, or `None` once all have ended.
-    pub(crate) fn next_loop<W: Wait>(&self, rt: &W) -> Option<usize> {
-        let mut waiting = self.waiting.lock(rt);
+    pub(crate) fn next_loop<W: Wait>(&self, rt: &W, thread: usize) -> Option<usize> {
+        let parker = self.parkers.get(thread)?;
         for _ in rt.forever() {
-            if let Some(number) = waiting.pop_front() {
+            if let Some(number) = self.waiting.lock(rt).next_loop(thread) {
                 return Some(number);
             }
             if self.have_ended() {
                 return None;
             }
-            waiting = self.has_waiting.wait(rt, waiting);
+            parker.park(rt);
         }
         unreachable!()
     }
 
     // Lets another thread continue the loop.
     fn assign<W: Wait>(&self, rt: &W, number: usize) {
-        // Can't fail: the list has capacity for all loops, and none is in it twice.
-        let _ = self.waiting.lock(rt).push_back(number);
-        self.has_waiting.notify_one();
+        let thread = self.waiting.lock(rt).add_loop(number);
+        if let Some(parker) = thread.and_then(|thread| self.parkers.get(thread)) {
+            parker.unpark();
+        }
     }
 
     /// Lets another thread continue each loop that has been in its slot since the last call: its
@@ -131,10 +139,10 @@ impl<R: Drop, P: Policy + Drop, B: PassBrand> LoopSlots<R, P, B> {
     pub(crate) fn end_loop<W: Wait>(&self, rt: &W, passes: Vec<LoopPass<B>>) {
         // Can't fail: the list has capacity for all loops.
         let _ = self.passes.lock(rt).push(passes);
-        let waiting = self.waiting.lock(rt);
         self.running_count.fetch_sub(1, Ordering::SeqCst);
-        drop(waiting);
-        self.has_waiting.notify_all();
+        for parker in &self.parkers {
+            parker.unpark();
+        }
         self.watcher.unpark();
     }
 
@@ -142,4 +150,42 @@ impl<R: Drop, P: Policy + Drop, B: PassBrand> LoopSlots<R, P, B> {
     pub(crate) fn take_passes<W: Wait>(&self, rt: &W, alloc: Global) -> Vec<Vec<LoopPass<B>>> {
         std::mem::replace(&mut *self.passes.lock(rt), Vec::new(alloc))
     }
+}
+
+impl Waiting {
+    // Creates the lists of these numbers of loops and threads. All loops wait.
+    fn new(alloc: Global, loops: usize, threads: usize) -> Result<Waiting, AllocError> {
+        let mut waiting = VecDeque::with_capacity(alloc, loops)?;
+        waiting.extend(0..loops)?;
+        Ok(Waiting {
+            loops: waiting,
+            threads: Vec::with_capacity(alloc, threads)?,
+        })
+    }
+
+    // Takes the next loop for the thread. Without one the thread waits.
+    fn next_loop(&mut self, thread: usize) -> Option<usize> {
+        self.threads.retain(|waiting| *waiting != thread);
+        let next = self.loops.pop_front();
+        if next.is_none() {
+            // Can't fail: the list has capacity for all threads, and none is in it twice.
+            let _ = self.threads.push(thread);
+        }
+        next
+    }
+
+    // Adds a loop. Returns the thread that gets it, if one waits.
+    fn add_loop(&mut self, number: usize) -> Option<usize> {
+        // Can't fail: the list has capacity for all loops, and none is in it twice.
+        let _ = self.loops.push_back(number);
+        self.threads.pop()
+    }
+}
+
+fn parkers_of(alloc: Global, threads: usize) -> Result<Vec<Parker>, AllocError> {
+    let mut parkers = Vec::with_capacity(alloc, threads)?;
+    for _ in 0..threads {
+        parkers.push(Parker::new())?;
+    }
+    Ok(parkers)
 }

@@ -151,8 +151,8 @@ where
 {
     let watcher = start_watcher(alloc, context, &started.slots)?;
     started.threads.push(watcher)?;
-    for _ in 0..count {
-        let thread = start_thread(alloc, context, &started.slots)?;
+    for number in 0..count {
+        let thread = start_thread(alloc, context, &started.slots, number)?;
         started.threads.push(thread)?;
     }
     Ok(())
@@ -178,6 +178,7 @@ fn start_thread<R, P, B>(
     alloc: Global,
     context: &LoopContext<R, P, B>,
     slots: &Arc<LoopSlots<R, P, B>, Global>,
+    number: usize,
 ) -> io::Result<JoinHandle<()>>
 where
     R: Net<Listener = TcpListener, Stream = TcpStream>,
@@ -187,7 +188,7 @@ where
 {
     let slots = Arc::try_clone(slots)?;
     let buffers = LoopBuffers::new(alloc, context.state.progress())?;
-    let runner = LoopRunner::new(alloc, context.try_clone()?, slots, buffers);
+    let runner = LoopRunner::new(alloc, context.try_clone()?, slots, buffers, number);
     handle_of(thread::spawn(&context.rt, move || run_loops(runner)))
 }
 

@@ -27,6 +27,8 @@ pub(crate) struct LoopRunner<R, P, B: PassBrand> {
     context: LoopContext<R, P, B>,
     slots: Arc<LoopSlots<R, P, B>, Global>,
     buffers: LoopBuffers,
+    // The number of the thread.
+    thread: usize,
 }
 
 impl<R, P, B: PassBrand> LoopRunner<R, P, B> {
@@ -36,12 +38,14 @@ impl<R, P, B: PassBrand> LoopRunner<R, P, B> {
         context: LoopContext<R, P, B>,
         slots: Arc<LoopSlots<R, P, B>, Global>,
         buffers: LoopBuffers,
+        thread: usize,
     ) -> LoopRunner<R, P, B> {
         LoopRunner {
             alloc,
             context,
             slots,
             buffers,
+            thread,
         }
     }
 }
@@ -57,9 +61,10 @@ where
         context,
         slots,
         mut buffers,
+        thread,
     } = runner;
     for _ in context.rt.forever() {
-        match slots.next_loop(&context.rt) {
+        match slots.next_loop(&context.rt, thread) {
             Some(number) => run_loop(alloc, &context, &slots, number, &mut buffers),
             None => return,
         }
