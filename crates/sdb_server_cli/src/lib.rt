@@ -6,6 +6,7 @@ mod clients;
 mod close;
 mod command_line;
 mod load;
+mod options;
 mod projection_option;
 mod store_file;
 mod store_task;
@@ -14,10 +15,9 @@ mod stored_lines;
 
 pub use clients::{ServeOptions, StopCondition, serve_at, serve_until_end};
 pub use close::print_close;
-pub use command_line::{
-    Options, ParsedArgs, RunMode, answer_input, parse_options, parse_run, run, run_mode,
-};
+pub use command_line::{ParsedArgs, answer_input, parse_run, run, run_mode};
 pub use load::LoadedDump;
+pub use options::{Options, RunMode, parse_options};
 pub use projection_option::{ProjectionOptionError, table_of};
 pub use store_file::{print_closed, print_store_fault};
 pub use store_task::{StoreJob, prepare_job, run_stored};

@@ -1,8 +1,8 @@
 //! What is done with a store file.
 
 use crate::close::print_audit;
-use crate::command_line::RunMode;
 use crate::load::{LoadedDump, read_dump, store_dump};
+use crate::options::RunMode;
 use crate::store_file::{print_store_fault, restore, restore_lines};
 use crate::stored::serve_file;
 use crate::stored_lines::answer_stored;
