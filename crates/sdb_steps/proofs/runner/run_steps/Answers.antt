@@ -78,8 +78,8 @@ returns-clause-cached c = c.loop-step.invariant.cached
 
 pub loop-step-init : goal.loop-step-init
 loop-step-init c = record {
-  run = run_none _ _ _ (ap (map plain_step_answer) c.new-answers.ensures.items) c.in_ok-world.ensures.machine c.in_ok-world.ensures.sessions;
-  cached = no_caches _ _ c.in_ok-world.ensures.caches;
+  run = run_none _ _ _ (ap (map plain_step_answer) c.new-answers.ensures.items) (ap (λ w. w.machine) c.in_ok-world.ensures) (ap (λ w. w.sessions) c.in_ok-world.ensures);
+  cached = no_caches _ _ (ap (λ w. w.caches) c.in_ok-world.ensures);
 }
 
 pub loop-step-preserved : goal.loop-step-preserved

@@ -1,4 +1,4 @@
-use Rattle.std.proofs.Common.{map}
+use Rattle.std.proofs.Common.{map, ap}
 use Rattle.std.proofs.KnownBytes.{Appends-nil}
 use Rattle.std.proofs.Common.{inl}
 use Rattle.std.proofs.lemmas.Option.{IfSome_then}
@@ -15,12 +15,12 @@ returns-in_err-run_lines-clause-prefix_on_err g c =
 pub returns-clause-wrote_all : goal.returns-clause-wrote_all
 returns-clause-wrote_all g c =
     if_ok_both c.dump.result _ _ (λ wrote n counted. IfSome_then (g.R.Source.remaining_input c.args.reader.now) c.in_ok-run_lines.ensures.wrote_all
-    (λ input a. dump_written _ c.run_lines.new.machine (map readable_text (lines_of input)) _ _ _ n c.in_ok-new.ensures.machine c.in_ok-new.ensures.sessions a wrote counted)) c.dump.ensures.wrote_all c.dump.ensures.entries
+    (λ input a. dump_written _ c.run_lines.new.machine (map readable_text (lines_of input)) _ _ _ n (ap (λ w. w.machine) c.in_ok-new.ensures) (ap (λ w. w.sessions) c.in_ok-new.ensures) a wrote counted)) c.dump.ensures.wrote_all c.dump.ensures.entries
 
 pub returns-clause-prefix_on_err : goal.returns-clause-prefix_on_err
 returns-clause-prefix_on_err g c =
     on_err c.dump.result (λ wrote. IfSome_then (g.R.Source.remaining_input c.args.reader.now) c.in_ok-run_lines.ensures.wrote_all
-    (λ input a. dumped_prefix _ c.run_lines.new.machine (map readable_text (lines_of input)) _ _ _ c.in_ok-new.ensures.machine c.in_ok-new.ensures.sessions a wrote)) c.dump.ensures.prefix_on_err
+    (λ input a. dumped_prefix _ c.run_lines.new.machine (map readable_text (lines_of input)) _ _ _ (ap (λ w. w.machine) c.in_ok-new.ensures) (ap (λ w. w.sessions) c.in_ok-new.ensures) a wrote)) c.dump.ensures.prefix_on_err
 
 pub returns-clause-read_failures : goal.returns-clause-read_failures
 returns-clause-read_failures g c = reads_on c.dump.result _ _ _ _ c.in_ok-run_lines.ensures.read_failures c.dump.ensures.never_read_failed
