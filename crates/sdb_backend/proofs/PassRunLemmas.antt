@@ -396,17 +396,17 @@ module _ (n id : ℕ) where
       → IsCallUnder (pass_number p) c.call → AnsweredAtExtension c.key c.call p c.answer o → PassSoFar k p ss ts
       → PassSoFar k o (ss ++ cond (keys_equal c.key k) (stored_by_call c.call c.answer) []) (ts ++ cond (keys_equal c.key k) (taken_by_call id c.call c.answer) [])
   call_of_pass k c p o ss ts (inl t) by d h =
-      let seen : PassHasSeen p k d.0 = subst (λ (i : ℕ). PassHasSeenShard p i d.0) t.1 d.3 in
-      let one : h.0 ≡ d.0 = have_seen_unique p.seats (shard_of k) h.0 d.0 h.1 seen in
-      let before : MachineSoFar k (machine_of d.0.shard) ss ts = subst (λ (y : Held). MachineSoFar k (machine_of y.shard) ss ts) one h.2 in
-      let same : share_of n (machine_of d.0.shard) ≡ share_of n (machine_of d.1.shard) = subst (λ (i : ℕ). share_of i (machine_of d.0.shard) ≡ share_of i (machine_of d.1.shard)) h.3 d.5 in
-      let at = so_far_grown k (machine_of d.0.shard) (machine_of d.1.shard) ss ts d.4 same before in
-      let step : MachineStep n (machine_of d.1.shard) c.key c.call c.answer (machine_of d.2.shard) = subst (λ (i : ℕ). MachineStep i (machine_of d.1.shard) c.key c.call c.answer (machine_of d.2.shard)) h.3 d.6 in
+      let seen : PassHasSeen p k d.observed = subst (λ (i : ℕ). PassHasSeenShard p i d.observed) t.1 d.seen_before in
+      let one : h.0 ≡ d.observed = have_seen_unique p.seats (shard_of k) h.0 d.observed h.1 seen in
+      let before : MachineSoFar k (machine_of d.observed.shard) ss ts = subst (λ (y : Held). MachineSoFar k (machine_of y.shard) ss ts) one h.2 in
+      let same : share_of n (machine_of d.observed.shard) ≡ share_of n (machine_of d.history.shard) = subst (λ (i : ℕ). share_of i (machine_of d.observed.shard) ≡ share_of i (machine_of d.history.shard)) h.3 d.share_unchanged in
+      let at = so_far_grown k (machine_of d.observed.shard) (machine_of d.history.shard) ss ts d.extends same before in
+      let step : MachineStep n (machine_of d.history.shard) c.key c.call c.answer (machine_of d.next.shard) = subst (λ (i : ℕ). MachineStep i (machine_of d.history.shard) c.key c.call c.answer (machine_of d.next.shard)) h.3 d.ran in
       let own : IsCallUnder n c.call = subst (λ (i : ℕ). IsCallUnder i c.call) h.3 by in (
-        d.2,
-        subst (λ (i : ℕ). PassHasSeenShard o i d.2) t.1 d.7,
-        call_so_far c.key k (machine_of d.1.shard) (machine_of d.2.shard) c.call c.answer ss ts own step at,
-        d.8 ∙ h.3,
+        d.next,
+        subst (λ (i : ℕ). PassHasSeenShard o i d.next) t.1 d.seen_after,
+        call_so_far c.key k (machine_of d.history.shard) (machine_of d.next.shard) c.call c.answer ss ts own step at,
+        d.number_unchanged ∙ h.3,
       )
   call_of_pass k c p o ss ts (inr f) by d h =
       let other : keys_equal c.key k ≡ false = not_the_key (keys_equal c.key k) c.key k refl f.1 in
@@ -414,9 +414,9 @@ module _ (n id : ℕ) where
       let none : cond (keys_equal c.key k) (stored_by_call c.call c.answer) [] ≡ [] = ap (λ (b : Bool). cond b (stored_by_call c.call c.answer) []) other in
       let nothing : cond (keys_equal c.key k) (taken_by_call id c.call c.answer) [] ≡ [] = ap (λ (b : Bool). cond b (taken_by_call id c.call c.answer) []) other in (
         h.0,
-        (λ (s : Seat Held). subst (λ (t : Seat Held). HasSeen t h.0) (sym (d.9 (shard_of k) s (λ e. f.1 (sym e)))) (h.1 s)),
+        (λ (s : Seat Held). subst (λ (t : Seat Held). HasSeen t h.0) (sym (d.others_unchanged (shard_of k) s (λ e. f.1 (sym e)))) (h.1 s)),
         with_none (m.logs k) (m.queues k) ss _ ts _ none nothing h.2,
-        d.8 ∙ h.3,
+        d.number_unchanged ∙ h.3,
       )
 
   calls_of_pass : (k : PlainKey) (calls : List AnsweredCall) (p q : Pass) (ss : List (ℕ × PlainSubmission)) (ts : List PlainEntry) → AreAnswered calls p q → PassSoFar k p ss ts

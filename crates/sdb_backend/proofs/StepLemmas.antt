@@ -14,7 +14,7 @@ use Rattle.sdb_submit.specs.Calls.{PlainCall, look, commit, commit_now, take_nex
 use Rattle.sdb_submit.specs.SubmitLoop.{SubmitRelation}
 use Rattle.sdb_submit.specs.laws.SubmitLaws.{IsSubmitInvariant, submit_preserves, decided_at_commit, out_of_memory_unchanged}
 use Rattle.sdb_striped_lock.specs.laws.SeatLaws.{have_seen_unique}
-use Rattle.sdb_backend.specs.CallAnswers.{AnsweredAtExtension, PassCalls, AddsEntry, TakeContinues}
+use Rattle.sdb_backend.specs.CallAnswers.{RunsAtExtension, AnsweredAtExtension, PassCalls, AddsEntry, TakeContinues}
 use Rattle.sdb_backend.specs.HistoryOrder.{Extends, share_of, queue_owned_by, AddsToShare, Share}
 use Rattle.sdb_backend.specs.HistoryOrderLaws.{extends_trans}
 use Rattle.sdb_backend.specs.PassModel.{pass_number}
@@ -22,33 +22,51 @@ use Rattle.sdb_backend.proofs.HistoryGrowth.{same_grown, decides_adds}
 use Rattle.sdb_backend.specs.declared.shard_value.Held.{Held}
 use Rattle.sdb_backend.specs.declared.pass.Pass.{Pass}
 
+-- a run, by what is known of it at its history
+abbrev pub run_at_same_history : {k : PlainKey} {runs other : Held → Held → Type 0} {p q : Pass} → (d : RunsAtExtension k runs p q) → other d.history d.next
+    → RunsAtExtension k other p q
+run_at_same_history d ran =
+    record {
+      observed = d.observed;
+      history = d.history;
+      next = d.next;
+      seen_before = d.seen_before;
+      extends = d.extends;
+      share_unchanged = d.share_unchanged;
+      ran = ran;
+      seen_after = d.seen_after;
+      number_unchanged = d.number_unchanged;
+      others_unchanged = d.others_unchanged;
+    }
+
 -- ---- one call after another
 
 -- a call after one that changed nothing
 pub answered_after_unchanged : (k : PlainKey) (c e : PlainCall) (a : CallAnswer c) (b : CallAnswer e) (p o q : Pass) (h : AnsweredAtExtension k c p a o)
-    → IsUnchanged (machine_of h.1.shard) (machine_of h.2.shard) → AnsweredAtExtension k e o b q → AnsweredAtExtension k e p b q
+    → IsUnchanged (machine_of h.history.shard) (machine_of h.next.shard) → AnsweredAtExtension k e o b q → AnsweredAtExtension k e p b q
 answered_after_unchanged k c e a b p o q h same d =
     let n = pass_number p in
-    let x = machine_of h.0.shard in
-    let at = machine_of h.1.shard in
-    let left = machine_of h.2.shard in
-    let next = machine_of d.1.shard in
-    let one : d.0 ≡ h.2 = have_seen_unique o.seats (shard_of k) d.0 h.2 d.3 h.7 in
-    let ext : Extends next left = subst (λ (y : Held). Extends next (machine_of y.shard)) one d.4 in
+    let x = machine_of h.observed.shard in
+    let at = machine_of h.history.shard in
+    let left = machine_of h.next.shard in
+    let next = machine_of d.history.shard in
+    let one : d.observed ≡ h.next = have_seen_unique o.seats (shard_of k) d.observed h.next d.seen_before h.seen_after in
+    let ext : Extends next left = subst (λ (y : Held). Extends next (machine_of y.shard)) one d.extends in
     let kept : share_of n left ≡ share_of n next =
-    subst (λ (m : ℕ). share_of m left ≡ share_of m next) h.8 (subst (λ (y : Held). share_of (pass_number o) (machine_of y.shard) ≡ share_of (pass_number o) next) one d.5) in
-    let still : share_of n at ≡ share_of n left = λ i. share_of n (record { logs = sym same.0 i; queues = sym same.1 i }) in (
-      h.0,
-      d.1,
-      d.2,
-      h.3,
-      extends_trans x left next ext (extends_trans x at left (same_grown n at left same).extends h.4),
-      h.5 ∙ still ∙ kept,
-      subst (λ (m : ℕ). MachineStep m next k e b (machine_of d.2.shard)) h.8 d.6,
-      d.7,
-      d.8 ∙ h.8,
-      (λ j t ne. d.9 j t ne ∙ h.9 j t ne),
-    )
+    subst (λ (m : ℕ). share_of m left ≡ share_of m next) h.number_unchanged (subst (λ (y : Held). share_of (pass_number o) (machine_of y.shard) ≡ share_of (pass_number o) next) one d.share_unchanged) in
+    let still : share_of n at ≡ share_of n left = λ i. share_of n (record { logs = sym same.0 i; queues = sym same.1 i }) in
+    record {
+      observed = h.observed;
+      history = d.history;
+      next = d.next;
+      seen_before = h.seen_before;
+      extends = extends_trans x left next ext (extends_trans x at left (same_grown n at left same).extends h.extends);
+      share_unchanged = h.share_unchanged ∙ still ∙ kept;
+      ran = subst (λ (m : ℕ). MachineStep m next k e b (machine_of d.next.shard)) h.number_unchanged d.ran;
+      seen_after = d.seen_after;
+      number_unchanged = d.number_unchanged ∙ h.number_unchanged;
+      others_unchanged = λ j t ne. d.others_unchanged j t ne ∙ h.others_unchanged j t ne;
+    }
 
 module _ (k : PlainKey) (s : PlainSubmission) (now : ℕ) where
   -- the submission gets the machine's answer at one history
@@ -60,14 +78,14 @@ module _ (k : PlainKey) (s : PlainSubmission) (now : ℕ) where
 
   one_step_unchanged : IsSubmitInvariant (PassCalls k) s now AtomicSubmitHere
   one_step_unchanged = record {
-    look_failed = λ p o q r h d. answered_after_unchanged k (look s) (commit_now s now) None r p o q h h.6.1 d;
-    look_taken = λ p o q l r h d. answered_after_unchanged k (look s) (commit_now s now) (Some l) r p o q h h.6.1 d;
-    commit_moved = λ p o q l m r h d. answered_after_unchanged k (commit (attempt_of_look l) now) (commit_now s now) (moved m) r p o q h (h.6.0.2, h.6.1) d;
+    look_failed = λ p o q r h d. answered_after_unchanged k (look s) (commit_now s now) None r p o q h h.ran.1 d;
+    look_taken = λ p o q l r h d. answered_after_unchanged k (look s) (commit_now s now) (Some l) r p o q h h.ran.1 d;
+    commit_moved = λ p o q l m r h d. answered_after_unchanged k (commit (attempt_of_look l) now) (commit_now s now) (moved m) r p o q h (h.ran.0.2, h.ran.1) d;
     work_failed = λ p o q l r h d.
         answered_after_unchanged k (commit (attempt_of_look l) now) (commit_now s now) (decided (refused E10)) r p o q h
-        (out_of_memory_unchanged (machine_of h.1.shard).logs (machine_of h.2.shard).logs k (attempt_of_look l) now h.6.0, h.6.1) d;
+        (out_of_memory_unchanged (machine_of h.history.shard).logs (machine_of h.next.shard).logs k (attempt_of_look l) now h.ran.0, h.ran.1) d;
     commit_decided = λ p q l r h isnt.
-        (h.0, h.1, h.2, h.3, h.4, h.5, (decided_at_commit (machine_of h.1.shard).logs (machine_of h.2.shard).logs k (attempt_of_look l) now r isnt h.6.0, h.6.1), h.7, h.8, h.9);
+        run_at_same_history h (decided_at_commit (machine_of h.history.shard).logs (machine_of h.next.shard).logs k (attempt_of_look l) now r isnt h.ran.0, h.ran.1);
     commit_now_decided = λ p q r h. h;
   }
 
@@ -77,14 +95,15 @@ module _ (k : PlainKey) (s : PlainSubmission) (now : ℕ) where
   -- a reply `stored` adds one entry
   pub step_adds : (p q : Pass) (r : PlainReply) → AtomicSubmitHere p r q → s.by ≡ pass_number p → AddsEntry k s now p r q
   step_adds p q r h by =
-      let n = pass_number p in (
-        h.0,
-        h.2,
-        h.3,
-        h.7,
-        subst (λ (o : Share). AddsToShare k s now r o (share_of n (machine_of h.2.shard))) (sym h.5)
-            (decides_adds n (machine_of h.1.shard) (machine_of h.2.shard) k s now r by h.6.1 h.6.0),
-      )
+      let n = pass_number p in
+      record {
+        observed = h.observed;
+        next = h.next;
+        seen_before = h.seen_before;
+        seen_after = h.seen_after;
+        adds = subst (λ (o : Share). AddsToShare k s now r o (share_of n (machine_of h.next.shard))) (sym h.share_unchanged)
+            (decides_adds n (machine_of h.history.shard) (machine_of h.next.shard) k s now r by h.ran.1 h.ran.0);
+      }
 
 -- ---- a take
 
@@ -105,13 +124,14 @@ taken_is log by n max qs = taken_at log by n max qs (queue_at n qs) refl
 pub take_answer : (k : PlainKey) (id max : ℕ) (p q : Pass) (r : Result (Option (Vec PlainEntry Global)) AllocError) → AnsweredAtExtension k (take_next id max) p (taken_view r) q
     → IfOk r (λ v. TakeContinues k id max p (option_map (λ es. es.items) v) q)
 take_answer k id max p q (Ok v) h =
-    let log = (machine_of h.1.shard).logs k in (
-      h.0,
-      h.1,
-      h.2,
-      h.3,
-      h.7,
-      h.4,
-      h.6.0.0 ∙ taken_is log (pass_number p) id max ((machine_of h.1.shard).queues k).queues ∙ ap (λ (o : Share). option_map (pending_entries log max) (o.queues k id)) (sym h.5),
-    )
+    let log = (machine_of h.history.shard).logs k in
+    record {
+      observed = h.observed;
+      history = h.history;
+      next = h.next;
+      seen_before = h.seen_before;
+      seen_after = h.seen_after;
+      extends = h.extends;
+      entries_are = h.ran.0.0 ∙ taken_is log (pass_number p) id max ((machine_of h.history.shard).queues k).queues ∙ ap (λ (o : Share). option_map (pending_entries log max) (o.queues k id)) (sym h.share_unchanged);
+    }
 take_answer k id max p q (Err e) h = tt

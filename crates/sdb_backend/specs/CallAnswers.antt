@@ -15,14 +15,24 @@ use Rattle.sdb_backend.specs.PassModel.{pass_number, PassHasSeen, ChangesPassOnl
 use Rattle.sdb_backend.specs.declared.shard_value.Held.{Held}
 use Rattle.sdb_backend.specs.declared.pass.Pass.{Pass}
 
--- the machine answers at a history h of the key's shard that extends the observed x and has the same share of the pass;
--- the pass then observes the result, and other shards are unchanged
+-- a run at a history of the key's shard that extends the observed one and has the same share of the pass; the pass then
+-- observes the result, and nothing new of other shards
+pub record RunsAtExtension (k : PlainKey) (runs : Held → Held → Type 0) (p q : Pass) : Type 0 where
+  pub observed : Held
+  pub history : Held
+  pub next : Held
+  pub seen_before : PassHasSeen p k observed
+  pub extends : Extends (machine_of history.shard) (machine_of observed.shard)
+  pub share_unchanged : share_of (pass_number p) (machine_of observed.shard) ≡ share_of (pass_number p) (machine_of history.shard)
+  pub ran : runs history next
+  pub seen_after : PassHasSeen q k next
+  pub number_unchanged : pass_number q ≡ pass_number p
+  pub others_unchanged : ChangesPassOnlyAt (shard_of k) p q
+
+-- the machine answers at such a history
 abbrev pub AnsweredAtExtension : PlainKey → (c : PlainCall) → Pass → CallAnswer c → Pass → Type 0
 AnsweredAtExtension k c p a q =
-    (x h new : Held) × PassHasSeen p k x × Extends (machine_of h.shard) (machine_of x.shard)
-    × (share_of (pass_number p) (machine_of x.shard) ≡ share_of (pass_number p) (machine_of h.shard))
-    × MachineStep (pass_number p) (machine_of h.shard) k c a (machine_of new.shard) × PassHasSeen q k new
-    × (pass_number q ≡ pass_number p) × ChangesPassOnlyAt (shard_of k) p q
+    RunsAtExtension k (λ h new. MachineStep (pass_number p) (machine_of h.shard) k c a (machine_of new.shard)) p q
 
 -- the calls of a pass at a key
 abbrev pub PassCalls : PlainKey → CallRelation Pass
@@ -38,17 +48,24 @@ ForgetsCache k forget q = (new : Held) × PassHasSeen q k new × (caches_of new.
 ForgetsCache k c q = ⊤
 
 -- a reply `stored` adds one entry to the pass's share, and any other adds none
-abbrev pub AddsEntry : PlainKey → PlainSubmission → ℕ → Pass → PlainReply → Pass → Type 0
-AddsEntry k s now p r q =
-    (x new : Held) × PassHasSeen p k x × PassHasSeen q k new
-    × AddsToShare k s now r (share_of (pass_number p) (machine_of x.shard)) (share_of (pass_number p) (machine_of new.shard))
+pub record AddsEntry (k : PlainKey) (s : PlainSubmission) (now : ℕ) (p : Pass) (r : PlainReply) (q : Pass) : Type 0 where
+  pub observed : Held
+  pub next : Held
+  pub seen_before : PassHasSeen p k observed
+  pub seen_after : PassHasSeen q k next
+  pub adds : AddsToShare k s now r (share_of (pass_number p) (machine_of observed.shard)) (share_of (pass_number p) (machine_of next.shard))
 
 -- a take returns the next entries of the queue, from its observed position, at an extension of the observed history;
 -- none if the pass has no such queue
-abbrev pub TakeContinues : PlainKey → ℕ → ℕ → Pass → Option (List PlainEntry) → Pass → Type 0
-TakeContinues k id max p r q =
-    (x h new : Held) × PassHasSeen p k x × PassHasSeen q k new × Extends (machine_of h.shard) (machine_of x.shard)
-    × (r ≡ option_map (pending_entries (logs_of h.shard k) max) ((share_of (pass_number p) (machine_of x.shard)).queues k id))
+pub record TakeContinues (k : PlainKey) (id max : ℕ) (p : Pass) (r : Option (List PlainEntry)) (q : Pass) : Type 0 where
+  pub observed : Held
+  pub history : Held
+  pub next : Held
+  pub seen_before : PassHasSeen p k observed
+  pub seen_after : PassHasSeen q k next
+  pub extends : Extends (machine_of history.shard) (machine_of observed.shard)
+  pub entries_are :
+      r ≡ option_map (pending_entries (logs_of history.shard k) max) ((share_of (pass_number p) (machine_of observed.shard)).queues k id)
 
 -- one history extends what both passes have observed of the key's shard; neither observes anything new
 abbrev pub ComparedAtKey : PlainKey → Pass → Pass → Pass → Pass → Type 0
@@ -58,10 +75,14 @@ ComparedAtKey k first first_after second second_after =
 
 -- a listing is the machine's at one history that extends the observed one; the pass then observes an extension of it
 -- with the same share
-abbrev pub ListedAtExtension : PlainKey → ℕ → Pass → Result (List PlainEntry) Code → Pass → Type 0
-ListedAtExtension k v p r q =
-    (x h new : Held) × PassHasSeen p k x × Extends (machine_of h.shard) (machine_of x.shard)
-    × (share_of (pass_number p) (machine_of x.shard) ≡ share_of (pass_number p) (machine_of h.shard))
-    × ReadOrOutOfMemory is_nonempty r (operations_from (logs_of h.shard k) v)
-    × PassHasSeen q k new × Extends (machine_of new.shard) (machine_of h.shard)
-    × (share_of (pass_number p) (machine_of h.shard) ≡ share_of (pass_number p) (machine_of new.shard))
+pub record ListedAtExtension (k : PlainKey) (v : ℕ) (p : Pass) (r : Result (List PlainEntry) Code) (q : Pass) : Type 0 where
+  pub observed : Held
+  pub history : Held
+  pub next : Held
+  pub seen_before : PassHasSeen p k observed
+  pub extends : Extends (machine_of history.shard) (machine_of observed.shard)
+  pub share_unchanged : share_of (pass_number p) (machine_of observed.shard) ≡ share_of (pass_number p) (machine_of history.shard)
+  pub listed : ReadOrOutOfMemory is_nonempty r (operations_from (logs_of history.shard k) v)
+  pub seen_after : PassHasSeen q k next
+  pub extends_after : Extends (machine_of next.shard) (machine_of history.shard)
+  pub share_unchanged_after : share_of (pass_number p) (machine_of history.shard) ≡ share_of (pass_number p) (machine_of next.shard)

@@ -7,7 +7,7 @@ ghost use Rattle.sdb_oplog.specs.Keys.{plain_key, shard_of};
 ghost use Rattle.sdb_oplog.specs.declared.codes.Code.TheVariants.{E10, E11};
 ghost use Rattle.sdb_desk.specs.ShardView.{machine_of};
 ghost use Rattle.sdb_backend.specs.AuditModel.{ExtendsEveryPass};
-ghost use Rattle.sdb_backend.specs.CallAnswers.{ComparedAtKey};
+ghost use Rattle.sdb_backend.specs.CallAnswers.{ComparedAtKey, RunsAtExtension};
 ghost use Rattle.sdb_backend.specs.HistoryOrder.{Extends, share_of};
 ghost use Rattle.sdb_backend.specs.PassModel.{pass_number, next_pass_number, IsPassOfBackend, IsHostOfBackend, HasEmptyShare, HasEmptyShares, HasSeenHostHistories, PassHasSeen, HasEveryPass, ChangesPassOnlyAt};
 ghost use Rattle.sdb_backend.specs.declared.shard_value.Held.{Held as HeldShard};
@@ -219,13 +219,8 @@ impl<R: Wait> Backend<R> {
             ≡ share_of (pass_number pass.old) (machine_of v.shard)
             → J.precondition job (pass_number pass.old) v }
         ensures pass { IsPassOfBackend pass.new self.now }
-        ensures number_unchanged { pass_number pass.new ≡ pass_number pass.old }
-        ensures others_unchanged { ChangesPassOnlyAt (shard_of (plain_key key.now)) pass.old pass.new }
-        ensures ran { (x v w : HeldShard) × PassHasSeen pass.old (plain_key key.now) x
-            × Extends (machine_of v.shard) (machine_of x.shard)
-            × (share_of (pass_number pass.old) (machine_of x.shard)
-            ≡ share_of (pass_number pass.old) (machine_of v.shard))
-            × J.postcondition job (pass_number pass.old) v w result × PassHasSeen pass.new (plain_key key.now) w }
+        ensures ran { RunsAtExtension (plain_key key.now)
+            (λ v w. J.postcondition job (pass_number pass.old) v w result) pass.old pass.new }
     {
         self.locks.with(&self.rt, &mut pass.seats, key.shard(), job)
     }

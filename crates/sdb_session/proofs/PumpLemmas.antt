@@ -1,5 +1,5 @@
 -- Reads of queues in sequence.
-use Rattle.std.proofs.Common.{◌≡◌, ℕ, ◌+◌, List, [], ◌∷◌, ◌++◌, length, map, Some, Result, Ok, Err, OnErr, refl, sym, ap, ◌∙◌, subst, append_assoc, inl, arith}
+use Rattle.std.proofs.Common.{◌≡◌, ℕ, ◌+◌, List, [], ◌∷◌, ◌++◌, length, map, Some, Result, Ok, Err, IsErr, refl, sym, ap, ◌∙◌, subst, append_assoc, inl, arith}
 use Rattle.std.proofs.lemmas.List.{append-nil, map-append}
 use Rattle.sdb_oplog.specs.Keys.{PlainKey}
 use Rattle.sdb_projection.specs.Table.{PlainProjection}
@@ -9,7 +9,7 @@ use Rattle.sdb_wire.specs.Answers.{PlainAnswer}
 use Rattle.sdb_session.specs.laws.SessionLaws.{pieces_append}
 use Rattle.sdb_session.specs.Sessions.{PlainSubscription, PlainSession}
 use Rattle.sdb_session.specs.Output.{answer_items}
-use Rattle.sdb_session.specs.PumpModel.{PumpInterrupted, PlainTake, TakeCall, TakeCalls, CloseAllCalls, take_answers, pump_answers, pump_count}
+use Rattle.sdb_session.specs.PumpModel.{PumpInterrupted, PumpOutcome, PlainTake, TakeCall, TakeCalls, CloseAllCalls, take_answers, pump_answers, pump_count}
 
 module _ {P : Type 0} (acts : PlainKey → CallRelation P) (max : ℕ) where
   pub takes_more : (xs : List PlainTake) (x : PlainTake) (p m q : P) → TakeCalls acts max xs p m → TakeCall acts max x.sub.queue m (Some x.entries) q → TakeCalls acts max (xs ++ x ∷ []) p q
@@ -70,6 +70,9 @@ taken_sub f ts t x left rest all is of before =
 pub stops_at_once : {P : Type 0} (acts : PlainKey → CallRelation P) (max : ℕ) (s : PlainSession) (p : P) → PumpInterrupted acts max s p p
 stops_at_once acts max s p = record { takes = []; subs_left = s.subs; between = p; subs_are = refl; calls = takes_none acts max p; last = inl refl }
 
-pub on_err_any : {A E Q : Type 0} (r : Result A E) → Q → OnErr r Q
-on_err_any (Ok x) q = tt
-on_err_any (Err e) q = q
+-- an allocation failed
+pub pump_stopped : {P E : Type 0} (acts : PlainKey → CallRelation P) (max : ℕ) (t : List PlainProjection) (by : ℕ) (s : PlainSession) (p : P)
+    (r : Result ℕ E) (says : List PlainAnswer → Type 0) (q : P) → IsErr r → PumpInterrupted acts max s p q
+    → PumpOutcome acts max t by s p r says q
+pump_stopped acts max t by s p (Ok count) says q is h = cc
+pump_stopped acts max t by s p (Err e) says q is h = h

@@ -5,7 +5,6 @@ pub mod Dialogue
 pub mod Documents
 pub mod Handlers
 pub mod Responses
-pub mod PassModel
 pub mod PolicyModel
 pub mod ProjectionModel
 pub mod PumpModel

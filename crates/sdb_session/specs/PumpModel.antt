@@ -1,5 +1,5 @@
 -- Pumps: one read of each queue, and the answers for the entries read.
-use Rattle.std.specs.Prelude.{◌≡◌, ℕ, ◌+◌, ◌⊎◌, List, [], ◌∷◌, ◌++◌, length, map, filter, Bool, nat_eq, not, ◌&&◌, Option, Some, bytes_eq}
+use Rattle.std.specs.Prelude.{◌≡◌, ℕ, ◌+◌, ◌⊎◌, List, [], ◌∷◌, ◌++◌, length, map, filter, Bool, nat_eq, not, ◌&&◌, Option, Some, Result, Ok, Err, bytes_eq}
 use Rattle.sdb_oplog.specs.Plain.{PlainEntry}
 use Rattle.sdb_oplog.specs.Keys.{PlainKey}
 use Rattle.sdb_projection.specs.Table.{PlainProjection}
@@ -60,6 +60,12 @@ module _ {P : Type 0} (acts : PlainKey → CallRelation P) (max : ℕ) where
     pub subs_are : map (λ x. x.sub) takes ++ subs_left ≡ s.subs
     pub calls : TakeCalls takes p between
     pub last : (q ≡ between) ⊎ ((x : QueueId) × ((o : Option (List PlainEntry)) × TakeCall x between o q))
+
+  -- all queues are read, or some of them if an allocation fails
+  abbrev pub PumpOutcome : {E : Type 0} → List PlainProjection → ℕ → PlainSession → P → Result ℕ E → (List PlainAnswer → Type 0) → P
+      → Type 0
+  PumpOutcome t by s p (Ok count) says q = PumpRelation t by s p count says q
+  PumpOutcome t by s p (Err e) says q = PumpInterrupted s p q
 
 module _ {P : Type 0} (acts : PlainKey → CallRelation P) where
   -- each queue is closed, in order

@@ -1,5 +1,5 @@
 -- The views of sessions and answers.
-use Rattle.std.specs.Prelude.{◌≡◌, ◌++◌, ⊤, Bool, List, map, Option, Some, None, option_map, Result, Ok, Err, string_bytes, Vec}
+use Rattle.std.specs.Prelude.{◌≡◌, ◌++◌, ⊤, ℕ, Bool, true, List, map, Option, Some, None, option_map, Result, Ok, Err, string_bytes, Vec}
 use Rattle.std.specs.Borrow.{Bor}
 use Rattle.std.specs.Option.{is_some}
 use Rattle.std.specs.declared.alloc.AllocError.{AllocError}
@@ -19,6 +19,7 @@ use Rattle.sdb_wire.specs.Answers.{PlainAnswer}
 use Rattle.sdb_wire.specs.View.{echo_or_empty}
 use Rattle.sdb_session.specs.Sessions.{QueueId, PlainSubscription, PlainSession}
 use Rattle.sdb_session.specs.Output.{answer_items}
+use Rattle.sdb_session.specs.declared.pump.Pumped.{Pumped}
 use Rattle.sdb_session.specs.declared.session.Session.{Session}
 use Rattle.sdb_session.specs.declared.subscriptions.Subscription.{Subscription}
 
@@ -34,6 +35,12 @@ plain_session s = record { source = string_bytes s.source; subs = map plain_subs
 -- whether the session has ended
 abbrev pub has_ended : Session → Bool
 has_ended s = is_some s.ended
+
+-- a call ends the session if and only if it fails. After the end each call fails, calls nothing and changes nothing
+pub record EndsOnError {P : Type 0} (failed : Bool) (old : Session) (p : P) (new : Session) (q : P) : Type 0 where
+  pub ended : has_ended new ≡ failed
+  pub stays_ended : has_ended old ≡ true → failed ≡ true
+  pub unchanged_after_end : has_ended old ≡ true → (q ≡ p) × (plain_session new ≡ plain_session old)
 
 -- the echo of a message, as an error repeats it
 abbrev pub echo_of_message : Option (Bor (Value Global)) → PlainEcho
@@ -53,6 +60,11 @@ open_result (Err e) = Err e
 abbrev pub taken_entries_view : Result (Vec PlainEntry Global) AllocError → Option (List PlainEntry)
 taken_entries_view (Ok v) = Some v.items
 taken_entries_view (Err e) = None
+
+-- the number of entries that a pump read
+abbrev pub pumped_count : {E : Type 0} → Result Pumped E → Result ℕ E
+pumped_count (Ok r) = Ok r.taken
+pumped_count (Err e) = Err e
 
 -- these answers were appended
 abbrev pub WroteAnswers : {A : Type 0} → (PlainAnswer → List A) → List A → List A → List PlainAnswer → Type 0

@@ -2,7 +2,7 @@
 ghost use Rattle.std.specs.Prelude.{◌≡◌, ◌∷◌, [], option_map, string_bytes};
 ghost use Rattle.sdb_session.specs.Handlers.{RequestHandled};
 ghost use Rattle.sdb_session.specs.ListingView.{done_result, listing_result};
-ghost use Rattle.sdb_session.specs.PassModel.{IsNextPass};
+ghost use Rattle.sdb_submit.specs.PassModel.{IsNextPass};
 ghost use Rattle.sdb_session.specs.Sessions.{with_source};
 ghost use Rattle.sdb_session.specs.View.{plain_session, OutputUnlessFailed, WroteAnswers};
 ghost use Rattle.sdb_wire.specs.Answers.{hello_ack};

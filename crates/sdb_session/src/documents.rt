@@ -5,7 +5,7 @@ ghost use Rattle.sdb_oplog.specs.Keys.{plain_key};
 ghost use Rattle.sdb_session.specs.Documents.{ReadsDocument, document_at, document_request};
 ghost use Rattle.sdb_session.specs.Handlers.{RequestHandled};
 ghost use Rattle.sdb_session.specs.ListingView.{done_result};
-ghost use Rattle.sdb_session.specs.PassModel.{IsNextPass};
+ghost use Rattle.sdb_submit.specs.PassModel.{IsNextPass};
 ghost use Rattle.sdb_session.specs.Sessions.{PlainSession};
 ghost use Rattle.sdb_session.specs.View.{WroteAnswers};
 ghost use Rattle.sdb_value.specs.Value.{Value};

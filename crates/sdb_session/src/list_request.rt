@@ -4,7 +4,7 @@ ghost use Rattle.std.specs.Option.{is_some};
 ghost use Rattle.std.specs.Result.{is_err};
 ghost use Rattle.indexmap.specs.IndexMap.{spare};
 ghost use Rattle.sdb_oplog.specs.Keys.{plain_key};
-ghost use Rattle.sdb_session.specs.PassModel.{IsNextPass};
+ghost use Rattle.sdb_submit.specs.PassModel.{IsNextPass};
 ghost use Rattle.sdb_session.specs.Handlers.{RequestHandled, policy_of_context};
 ghost use Rattle.sdb_session.specs.Listing.{ListingOpens, ListingPart, ReplacesQueue, RequestPart, end_answer, entries_left};
 ghost use Rattle.sdb_session.specs.ListingView.{plain_listing, listing_result, PartOrFault};
@@ -190,8 +190,7 @@ impl Session {
         out: &mut O,
     ) -> Result<Option<Listing>, Ended>
         requires accepted { D.accepts desk.now pass.old }
-        ensures accepted { D.accepts desk.now pass.new }
-        ensures number_unchanged { D.pass_number desk.now pass.new ≡ D.pass_number desk.now pass.old }
+        ensures pass { IsNextPass D.accepts D.pass_number desk.now pass.old pass.new }
         ensures ended { has_ended self.new ≡ is_err result }
         ensures outcome { ListingPart (D.step desk.now) table.now (plain_listing listing)
             (plain_session self.old) pass.old (listing_result result)

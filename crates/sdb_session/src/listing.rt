@@ -1,6 +1,6 @@
 //! Listings: the entries of a log from a version on, or the first ones of a new queue, in batches.
 ghost use Rattle.std.specs.Prelude.{◌≡◌, ◌+◌, ◌<◌, ◌≤◌, [], ◌∷◌, IfOk, OnErr};
-ghost use Rattle.sdb_session.specs.PassModel.{IsNextPass};
+ghost use Rattle.sdb_submit.specs.PassModel.{IsNextPass};
 ghost use Rattle.sdb_session.specs.Listing.{ReadsFrom, FailsToRead, ClosesNewQueue, entries_left};
 ghost use Rattle.sdb_session.specs.ListingView.{plain_listing, BatchOutcome};
 ghost use Rattle.sdb_session.specs.View.{plain_projection_option, WroteAnswers};
@@ -64,8 +64,7 @@ impl Listing {
     /// Closes the listing's queue, if it has one. It doesn't allocate.
     pub fn abandon<D: Desk>(self, desk: &D, pass: &mut D::Pass)
         requires accepted { D.accepts desk.now pass.old }
-        ensures accepted { D.accepts desk.now pass.new }
-        ensures number_unchanged { D.pass_number desk.now pass.new ≡ D.pass_number desk.now pass.old }
+        ensures pass { IsNextPass D.accepts D.pass_number desk.now pass.old pass.new }
         ensures closed { ClosesNewQueue (D.step desk.now) (plain_listing self).queue (plain_listing self).base
             pass.old pass.new }
     {

@@ -1,11 +1,11 @@
 //! Pumps: sending the entries that wait in a session's queues.
-ghost use Rattle.std.specs.Prelude.{◌≡◌, ⊤, ℕ, IfOk, OnOk, OnErr, length, map, string_bytes, true};
+ghost use Rattle.std.specs.Prelude.{◌≡◌, ⊤, ℕ, IfOk, OnOk, length, map, string_bytes};
 ghost use Rattle.std.specs.Result.{is_err};
 ghost use Rattle.sdb_oplog.specs.Keys.{plain_key};
-ghost use Rattle.sdb_session.specs.PassModel.{IsNextPass};
-ghost use Rattle.sdb_session.specs.PumpModel.{is_own_entry, entries_of_others, CloseAllCalls, PumpRelation, PumpInterrupted};
+ghost use Rattle.sdb_submit.specs.PassModel.{IsNextPass};
+ghost use Rattle.sdb_session.specs.PumpModel.{is_own_entry, entries_of_others, CloseAllCalls, PumpOutcome};
 ghost use Rattle.sdb_session.specs.ProjectionModel.{projection_of_key};
-ghost use Rattle.sdb_session.specs.View.{WroteAnswers, has_ended, plain_session};
+ghost use Rattle.sdb_session.specs.View.{EndsOnError, WroteAnswers, plain_session, pumped_count};
 ghost use Rattle.sdb_session.specs.Responses.{entry_answers};
 ghost use Rattle.sdb_wire.specs.Answers.{answer_text};
 
@@ -45,18 +45,12 @@ impl Session {
         max: u64,
     ) -> Result<Pumped, Ended>
         requires accepted { D.accepts desk.now pass.old }
-        ensures accepted { D.accepts desk.now pass.new }
-        ensures number_unchanged { D.pass_number desk.now pass.new ≡ D.pass_number desk.now pass.old }
+        ensures pass { IsNextPass D.accepts D.pass_number desk.now pass.old pass.new }
         ensures session { plain_session self.new ≡ plain_session self.old }
-        ensures ended { has_ended self.new ≡ is_err result }
-        ensures stays_ended { has_ended self.old ≡ true → is_err result ≡ true }
-        // An ended session doesn't call the desk.
-        ensures no_call_after_end { has_ended self.old ≡ true → pass.new ≡ pass.old }
-        ensures pumped { IfOk result (λ r. PumpRelation (D.step desk.now) max table.now
-            (D.pass_number desk.now pass.old) (plain_session self.old) pass.old r.taken
-            (λ answers. map string_bytes r.texts.items ≡ map answer_text answers) pass.new) }
-        ensures interrupted { OnErr result (PumpInterrupted (D.step desk.now) max
-            (plain_session self.old) pass.old pass.new) }
+        ensures ended { EndsOnError (is_err result) self.old pass.old self.new pass.new }
+        ensures pumped { PumpOutcome (D.step desk.now) max table.now (D.pass_number desk.now pass.old)
+            (plain_session self.old) pass.old (pumped_count result)
+            (λ answers. IfOk result (λ r. map string_bytes r.texts.items ≡ map answer_text answers)) pass.new }
     {
         let mut texts = Vec::new(self.alloc);
         match self.pump_to(desk, pass, table, max, &mut texts) {
@@ -74,7 +68,7 @@ impl Session {
     ///
     /// # Errors
     ///
-    /// [`Ended`] if an allocation fails or the session had ended. After a failed allocation some
+    /// [`Ended`] if an allocation fails or the session had ended. After a failed allocation the first
     /// queues were read, and `out` is unspecified.
     pub fn pump_to<D: Desk, O: AnswerSink>(
         &mut self,
@@ -85,19 +79,12 @@ impl Session {
         out: &mut O,
     ) -> Result<u128, Ended>
         requires accepted { D.accepts desk.now pass.old }
-        ensures accepted { D.accepts desk.now pass.new }
-        ensures number_unchanged { D.pass_number desk.now pass.new ≡ D.pass_number desk.now pass.old }
+        ensures pass { IsNextPass D.accepts D.pass_number desk.now pass.old pass.new }
         ensures session { plain_session self.new ≡ plain_session self.old }
-        ensures ended { has_ended self.new ≡ is_err result }
-        ensures stays_ended { has_ended self.old ≡ true → is_err result ≡ true }
-        // An ended session doesn't call the desk.
-        ensures no_call_after_end { has_ended self.old ≡ true → pass.new ≡ pass.old }
-        ensures pumped { IfOk result (λ taken. PumpRelation (D.step desk.now) max table.now
-            (D.pass_number desk.now pass.old) (plain_session self.old) pass.old taken
-            (WroteAnswers O.items (O.contents out.old) (O.contents out.new)) pass.new) }
-        // After an error the first queues were read.
-        ensures interrupted { OnErr result (PumpInterrupted (D.step desk.now) max
-            (plain_session self.old) pass.old pass.new) }
+        ensures ended { EndsOnError (is_err result) self.old pass.old self.new pass.new }
+        ensures pumped { PumpOutcome (D.step desk.now) max table.now (D.pass_number desk.now pass.old)
+            (plain_session self.old) pass.old result
+            (WroteAnswers O.items (O.contents out.old) (O.contents out.new)) pass.new }
     {
         if let Some(ended) = self.ended {
             return Err(ended);
@@ -118,11 +105,9 @@ impl Session {
     ) -> Result<u128, AllocError>
         requires accepted { D.accepts desk.now pass.old }
         ensures pass { IsNextPass D.accepts D.pass_number desk.now pass.old pass.new }
-        ensures pumped { IfOk result (λ taken. PumpRelation (D.step desk.now) max table.now
-            (D.pass_number desk.now pass.old) (plain_session self.now) pass.old taken
-            (WroteAnswers O.items (O.contents out.old) (O.contents out.new)) pass.new) }
-        ensures interrupted { OnErr result (PumpInterrupted (D.step desk.now) max
-            (plain_session self.now) pass.old pass.new) }
+        ensures pumped { PumpOutcome (D.step desk.now) max table.now (D.pass_number desk.now pass.old)
+            (plain_session self.now) pass.old result
+            (WroteAnswers O.items (O.contents out.old) (O.contents out.new)) pass.new }
     {
         let by = desk.by(pass);
         let mut taken: u128 = 0;
@@ -169,8 +154,7 @@ impl Session {
     /// Ends the session by closing its queues. It doesn't allocate.
     pub fn end<D: Desk>(self, desk: &D, pass: &mut D::Pass)
         requires accepted { D.accepts desk.now pass.old }
-        ensures accepted { D.accepts desk.now pass.new }
-        ensures number_unchanged { D.pass_number desk.now pass.new ≡ D.pass_number desk.now pass.old }
+        ensures pass { IsNextPass D.accepts D.pass_number desk.now pass.old pass.new }
         ensures closed { CloseAllCalls (D.step desk.now) (plain_session self).subs pass.old pass.new }
     {
         for (_, queue) in self.subscriptions.iter() {

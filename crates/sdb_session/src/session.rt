@@ -2,8 +2,8 @@
 ghost use Rattle.std.specs.Prelude.{◌≡◌, ◌∷◌, [], true, false, IfOk, OnOk, map, string_bytes};
 ghost use Rattle.std.specs.Result.{is_err, is_ok};
 ghost use Rattle.sdb_oplog.specs.declared.codes.Code.TheVariants.{E1};
-ghost use Rattle.sdb_session.specs.PassModel.{IsNextPass};
-ghost use Rattle.sdb_session.specs.View.{WroteAnswers, has_ended, plain_session};
+ghost use Rattle.sdb_submit.specs.PassModel.{IsNextPass};
+ghost use Rattle.sdb_session.specs.View.{EndsOnError, WroteAnswers, has_ended, plain_session};
 ghost use Rattle.sdb_session.specs.Listing.{TextPart};
 ghost use Rattle.sdb_session.specs.ProgressView.{is_request_of, progress_result};
 ghost use Rattle.sdb_session.specs.Responses.{TextOutcome, TextInterrupted, OutcomeOrInterrupted};
@@ -142,13 +142,8 @@ impl Session {
         now: Moment,
     ) -> Result<Vec<String>, Ended>
         requires accepted { D.accepts desk.now pass.old }
-        ensures accepted { D.accepts desk.now pass.new }
-        ensures number_unchanged { D.pass_number desk.now pass.new ≡ D.pass_number desk.now pass.old }
-        ensures ended { has_ended self.new ≡ is_err result }
-        ensures stays_ended { has_ended self.old ≡ true → is_err result ≡ true }
-        // An ended session doesn't call the desk.
-        ensures no_call_after_end { has_ended self.old ≡ true →
-            (pass.new ≡ pass.old) × (plain_session self.new ≡ plain_session self.old) }
+        ensures pass { IsNextPass D.accepts D.pass_number desk.now pass.old pass.new }
+        ensures ended { EndsOnError (is_err result) self.old pass.old self.new pass.new }
         ensures outcome { OutcomeOrInterrupted result
             (TextOutcome (D.step desk.now) text.now (P.plain_policy policy.now)
             (D.pass_number desk.now pass.old) now (plain_session self.old) pass.old)
@@ -184,14 +179,9 @@ impl Session {
         out: &mut O,
     ) -> Result<bool, Ended>
         requires accepted { D.accepts desk.now pass.old }
-        ensures accepted { D.accepts desk.now pass.new }
-        ensures number_unchanged { D.pass_number desk.now pass.new ≡ D.pass_number desk.now pass.old }
+        ensures pass { IsNextPass D.accepts D.pass_number desk.now pass.old pass.new }
         ensures request { IfOk result (λ b. b ≡ is_ok (parse_message text.now).request) }
-        ensures ended { has_ended self.new ≡ is_err result }
-        ensures stays_ended { has_ended self.old ≡ true → is_err result ≡ true }
-        // An ended session doesn't call the desk.
-        ensures no_call_after_end { has_ended self.old ≡ true →
-            (pass.new ≡ pass.old) × (plain_session self.new ≡ plain_session self.old) }
+        ensures ended { EndsOnError (is_err result) self.old pass.old self.new pass.new }
         // After an error nothing was called, or a listing was interrupted, or all calls were made
         // and not all answers were written. A queue opened for the message is then closed again.
         ensures outcome { OutcomeOrInterrupted result
@@ -228,14 +218,9 @@ impl Session {
         out: &mut O,
     ) -> Result<Progress, Ended>
         requires accepted { D.accepts desk.now pass.old }
-        ensures accepted { D.accepts desk.now pass.new }
-        ensures number_unchanged { D.pass_number desk.now pass.new ≡ D.pass_number desk.now pass.old }
+        ensures pass { IsNextPass D.accepts D.pass_number desk.now pass.old pass.new }
         ensures request { IfOk result (λ p. is_request_of p ≡ is_ok (parse_message text.now).request) }
-        ensures ended { has_ended self.new ≡ is_err result }
-        ensures stays_ended { has_ended self.old ≡ true → is_err result ≡ true }
-        // An ended session doesn't call the desk.
-        ensures no_call_after_end { has_ended self.old ≡ true →
-            (pass.new ≡ pass.old) × (plain_session self.new ≡ plain_session self.old) }
+        ensures ended { EndsOnError (is_err result) self.old pass.old self.new pass.new }
         ensures outcome { TextPart (D.step desk.now) text.now (P.plain_policy policy.now)
             (D.pass_number desk.now pass.old) now (plain_session self.old) pass.old (progress_result result)
             (WroteAnswers O.items (O.contents out.old) (O.contents out.new)) (plain_session self.new) pass.new }

@@ -3,7 +3,7 @@ ghost use Rattle.std.specs.Prelude.{◌≡◌, ◌&&◌, IfOk, option_map, unwra
 ghost use Rattle.sdb_oplog.specs.Keys.{plain_key};
 ghost use Rattle.sdb_session.specs.Handlers.{RequestHandled};
 ghost use Rattle.sdb_session.specs.ListingView.{done_result};
-ghost use Rattle.sdb_session.specs.PassModel.{IsNextPass};
+ghost use Rattle.sdb_submit.specs.PassModel.{IsNextPass};
 ghost use Rattle.sdb_session.specs.ProjectionModel.{is_permitted};
 ghost use Rattle.sdb_session.specs.Responses.{submission_of};
 ghost use Rattle.sdb_session.specs.View.{plain_session, plain_projection_option, WroteAnswers};

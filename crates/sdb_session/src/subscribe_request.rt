@@ -2,7 +2,7 @@
 ghost use Rattle.std.specs.Prelude.{◌≡◌, ℕ, ◌<◌, ◌∷◌, [], IfOk, OnOk, OnErr, Ok, Err, None};
 ghost use Rattle.indexmap.specs.IndexMap.{spare};
 ghost use Rattle.sdb_oplog.specs.Keys.{plain_key};
-ghost use Rattle.sdb_session.specs.PassModel.{IsNextPass};
+ghost use Rattle.sdb_submit.specs.PassModel.{IsNextPass};
 ghost use Rattle.sdb_session.specs.Handlers.{RequestHandled};
 ghost use Rattle.sdb_session.specs.ListingView.{listing_result};
 ghost use Rattle.sdb_session.specs.Responses.{CloseCalls, RefuseCalls, OpenCalls, subscribe_answers, PlainSubscribeReply};

@@ -1,7 +1,7 @@
 //! Opening and closing of queues.
 ghost use Rattle.std.specs.Prelude.{◌≡◌, option_map};
 ghost use Rattle.sdb_oplog.specs.Keys.{plain_key};
-ghost use Rattle.sdb_session.specs.PassModel.{IsNextPass};
+ghost use Rattle.sdb_submit.specs.PassModel.{IsNextPass};
 ghost use Rattle.sdb_session.specs.PumpModel.{TakeCall};
 ghost use Rattle.sdb_session.specs.View.{queue_id_of, taken_entries_view};
 ghost use Rattle.sdb_session.specs.Responses.{CloseCalls};

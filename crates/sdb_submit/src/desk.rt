@@ -5,6 +5,7 @@ ghost use Rattle.sdb_desk.specs.Machine.{WorkAfterCommit, PlainAttempt};
 ghost use Rattle.sdb_desk.specs.View.{plain_look, plain_outcome, fetch_result_view, entries_view, subscribe_result_view, taken_view};
 ghost use Rattle.sdb_desk.specs.ReplyView.{plain_reply};
 ghost use Rattle.sdb_submit.specs.Calls.{PlainCall, look, commit, commit_now, current_version, fetch, ops_from, ops_between, snapshot, snapshot_at_time, forget, subscribe, take_next, unsubscribe, CallAnswer, OnMoved, copied_entries_view, look_view};
+ghost use Rattle.sdb_submit.specs.PassModel.{CanSubmit, IsCall};
 
 use sdb_desk::{FetchResult, Look, Outcome, Reply, SubscribeResult, Work};
 use sdb_oplog::{Code, Entry, Key, Moment, Submission};
@@ -49,29 +50,22 @@ pub trait Desk {
         key: &Key,
         submission: &Submission,
     ) -> Result<Look, AllocError>
-        requires accepted { accepts self.now pass.old }
-        requires by { submission.now.by ≡ pass_number self.now pass.old }
-        ensures accepted { accepts self.now pass.new }
-        ensures number_unchanged { pass_number self.now pass.new ≡ pass_number self.now pass.old }
+        requires caller { CanSubmit accepts pass_number self.now pass.old submission.now }
         ensures seen { IfOk result (λ l. has_seen self.now (plain_key key.now)
             (record { submission = submission.now; look = plain_look l }) pass.new) }
-        ensures step { step self.now (plain_key key.now) (look submission.now) pass.old (look_view result) pass.new }
-        ensures caches { caches_step self.now (plain_key key.now) (look submission.now) pass.old pass.new };
+        ensures call { IsCall accepts pass_number step caches_step self.now (plain_key key.now)
+            (look submission.now) pass.old (look_view result) pass.new };
 
     /// Decides the work's submission at a moment if the log hasn't grown since its look. Otherwise
     /// returns a new look.
     fn commit(&self, pass: &mut Self::Pass, key: &Key, work: &mut Work, now: Moment) -> Outcome
-        requires accepted { accepts self.now pass.old }
-        requires by { work.old.submission.by ≡ pass_number self.now pass.old }
+        requires caller { CanSubmit accepts pass_number self.now pass.old work.old.submission }
         requires seen { has_seen self.now (plain_key key.now) work.old pass.old }
-        ensures accepted { accepts self.now pass.new }
-        ensures number_unchanged { pass_number self.now pass.new ≡ pass_number self.now pass.old }
         ensures work { WorkAfterCommit (plain_outcome result) work.old work.new }
         ensures seen { OnMoved (plain_outcome result) (λ l. has_seen self.now (plain_key key.now)
             (record { submission = work.old.submission; look = l }) pass.new) }
-        ensures step { step self.now (plain_key key.now) (commit work.old now) pass.old
-            (plain_outcome result) pass.new }
-        ensures caches { caches_step self.now (plain_key key.now) (commit work.old now) pass.old pass.new };
+        ensures call { IsCall accepts pass_number step caches_step self.now (plain_key key.now)
+            (commit work.old now) pass.old (plain_outcome result) pass.new };
 
     /// Decides a submission at a moment.
     fn commit_now(
@@ -81,32 +75,22 @@ pub trait Desk {
         submission: &Submission,
         now: Moment,
     ) -> Reply
-        requires accepted { accepts self.now pass.old }
-        requires by { submission.now.by ≡ pass_number self.now pass.old }
-        ensures accepted { accepts self.now pass.new }
-        ensures number_unchanged { pass_number self.now pass.new ≡ pass_number self.now pass.old }
-        ensures step { step self.now (plain_key key.now) (commit_now submission.now now) pass.old
-            (plain_reply result) pass.new }
-        ensures caches { caches_step self.now (plain_key key.now) (commit_now submission.now now) pass.old pass.new };
+        requires caller { CanSubmit accepts pass_number self.now pass.old submission.now }
+        ensures call { IsCall accepts pass_number step caches_step self.now (plain_key key.now)
+            (commit_now submission.now now) pass.old (plain_reply result) pass.new };
 
     /// Decides a work's submission at a moment, even if the log has grown since its look. An
     /// implementation should transform only against the newer entries; no clause states it.
     fn commit_last(&self, pass: &mut Self::Pass, key: &Key, work: Work, now: Moment) -> Reply
-        requires accepted { accepts self.now pass.old }
-        requires by { work.submission.by ≡ pass_number self.now pass.old }
-        ensures accepted { accepts self.now pass.new }
-        ensures number_unchanged { pass_number self.now pass.new ≡ pass_number self.now pass.old }
-        ensures step { step self.now (plain_key key.now) (commit_now work.submission now) pass.old
-            (plain_reply result) pass.new }
-        ensures caches { caches_step self.now (plain_key key.now) (commit_now work.submission now) pass.old pass.new };
+        requires caller { CanSubmit accepts pass_number self.now pass.old work.submission }
+        ensures call { IsCall accepts pass_number step caches_step self.now (plain_key key.now)
+            (commit_now work.submission now) pass.old (plain_reply result) pass.new };
 
     /// Returns the current version, 0 for a document without entries. It doesn't allocate.
     fn version(&self, pass: &mut Self::Pass, key: &Key) -> u64
         requires { accepts self.now pass.old }
-        ensures accepted { accepts self.now pass.new }
-        ensures number_unchanged { pass_number self.now pass.new ≡ pass_number self.now pass.old }
-        ensures step { step self.now (plain_key key.now) current_version pass.old result pass.new }
-        ensures caches { caches_step self.now (plain_key key.now) current_version pass.old pass.new };
+        ensures call { IsCall accepts pass_number step caches_step self.now (plain_key key.now)
+            current_version pass.old result pass.new };
 
     /// Returns the current version and document.
     ///
@@ -115,10 +99,8 @@ pub trait Desk {
     /// [`Code::E10`] if an allocation fails.
     fn fetch(&self, pass: &mut Self::Pass, key: &Key) -> Result<FetchResult, Code>
         requires { accepts self.now pass.old }
-        ensures accepted { accepts self.now pass.new }
-        ensures number_unchanged { pass_number self.now pass.new ≡ pass_number self.now pass.old }
-        ensures step { step self.now (plain_key key.now) fetch pass.old (fetch_result_view result) pass.new }
-        ensures caches { caches_step self.now (plain_key key.now) fetch pass.old pass.new };
+        ensures call { IsCall accepts pass_number step caches_step self.now (plain_key key.now)
+            fetch pass.old (fetch_result_view result) pass.new };
 
     /// Returns the entries from a version on.
     ///
@@ -127,10 +109,8 @@ pub trait Desk {
     /// [`Code::E4`] if the version is above the current one, [`Code::E10`] if an allocation fails.
     fn ops_from(&self, pass: &mut Self::Pass, key: &Key, version: u64) -> Result<Vec<Entry>, Code>
         requires { accepts self.now pass.old }
-        ensures accepted { accepts self.now pass.new }
-        ensures number_unchanged { pass_number self.now pass.new ≡ pass_number self.now pass.old }
-        ensures step { step self.now (plain_key key.now) (ops_from version) pass.old (entries_view result) pass.new }
-        ensures caches { caches_step self.now (plain_key key.now) (ops_from version) pass.old pass.new };
+        ensures call { IsCall accepts pass_number step caches_step self.now (plain_key key.now)
+            (ops_from version) pass.old (entries_view result) pass.new };
 
     /// Returns the entries from version `from` up to, and without, version `to`; fewer if the log
     /// ends before.
@@ -146,11 +126,8 @@ pub trait Desk {
         to: u64,
     ) -> Result<Vec<Entry>, AllocError>
         requires { accepts self.now pass.old }
-        ensures accepted { accepts self.now pass.new }
-        ensures number_unchanged { pass_number self.now pass.new ≡ pass_number self.now pass.old }
-        ensures step { step self.now (plain_key key.now) (ops_between from to) pass.old
-            (copied_entries_view result) pass.new }
-        ensures caches { caches_step self.now (plain_key key.now) (ops_between from to) pass.old pass.new };
+        ensures call { IsCall accepts pass_number step caches_step self.now (plain_key key.now)
+            (ops_between from to) pass.old (copied_entries_view result) pass.new };
 
     /// Returns the document at a version, or the current one if it is `None`, with its version.
     ///
@@ -164,11 +141,8 @@ pub trait Desk {
         version: Option<u64>,
     ) -> Result<FetchResult, Code>
         requires { accepts self.now pass.old }
-        ensures accepted { accepts self.now pass.new }
-        ensures number_unchanged { pass_number self.now pass.new ≡ pass_number self.now pass.old }
-        ensures step { step self.now (plain_key key.now) (snapshot version) pass.old
-            (fetch_result_view result) pass.new }
-        ensures caches { caches_step self.now (plain_key key.now) (snapshot version) pass.old pass.new };
+        ensures call { IsCall accepts pass_number step caches_step self.now (plain_key key.now)
+            (snapshot version) pass.old (fetch_result_view result) pass.new };
 
     /// Returns the document at a moment, or the current one if it is `None`, with its version.
     ///
@@ -182,19 +156,14 @@ pub trait Desk {
         moment: Option<Moment>,
     ) -> Result<FetchResult, Code>
         requires { accepts self.now pass.old }
-        ensures accepted { accepts self.now pass.new }
-        ensures number_unchanged { pass_number self.now pass.new ≡ pass_number self.now pass.old }
-        ensures step { step self.now (plain_key key.now) (snapshot_at_time moment) pass.old
-            (fetch_result_view result) pass.new }
-        ensures caches { caches_step self.now (plain_key key.now) (snapshot_at_time moment) pass.old pass.new };
+        ensures call { IsCall accepts pass_number step caches_step self.now (plain_key key.now)
+            (snapshot_at_time moment) pass.old (fetch_result_view result) pass.new };
 
     /// Empties the document's snapshot cache. It doesn't allocate.
     fn forget(&self, pass: &mut Self::Pass, key: &Key)
         requires { accepts self.now pass.old }
-        ensures accepted { accepts self.now pass.new }
-        ensures number_unchanged { pass_number self.now pass.new ≡ pass_number self.now pass.old }
-        ensures step { step self.now (plain_key key.now) forget pass.old tt pass.new }
-        ensures caches { caches_step self.now (plain_key key.now) forget pass.old pass.new };
+        ensures call { IsCall accepts pass_number step caches_step self.now (plain_key key.now)
+            forget pass.old tt pass.new };
 
     /// Opens a queue of all entries from a version on, or from the current one if it is `None`, and
     /// returns the document at it. The queue belongs to the pass's number.
@@ -210,11 +179,8 @@ pub trait Desk {
         version: Option<u64>,
     ) -> Result<SubscribeResult, Code>
         requires { accepts self.now pass.old }
-        ensures accepted { accepts self.now pass.new }
-        ensures number_unchanged { pass_number self.now pass.new ≡ pass_number self.now pass.old }
-        ensures step { step self.now (plain_key key.now) (subscribe version) pass.old
-            (subscribe_result_view result) pass.new }
-        ensures caches { caches_step self.now (plain_key key.now) (subscribe version) pass.old pass.new };
+        ensures call { IsCall accepts pass_number step caches_step self.now (plain_key key.now)
+            (subscribe version) pass.old (subscribe_result_view result) pass.new };
 
     /// Returns the next entries of a queue, at most `max`. Returns `None` if the key has no open
     /// queue with this number, or if it belongs to another pass number.
@@ -230,19 +196,15 @@ pub trait Desk {
         max: u64,
     ) -> Result<Option<Vec<Entry>>, AllocError>
         requires { accepts self.now pass.old }
-        ensures accepted { accepts self.now pass.new }
-        ensures number_unchanged { pass_number self.now pass.new ≡ pass_number self.now pass.old }
-        ensures step { step self.now (plain_key key.now) (take_next id max) pass.old (taken_view result) pass.new }
-        ensures caches { caches_step self.now (plain_key key.now) (take_next id max) pass.old pass.new };
+        ensures call { IsCall accepts pass_number step caches_step self.now (plain_key key.now)
+            (take_next id max) pass.old (taken_view result) pass.new };
 
     /// Closes a queue of the key. It has no effect if no open queue has this number, or if it
     /// belongs to another pass number. It doesn't allocate.
     fn unsubscribe(&self, pass: &mut Self::Pass, key: &Key, id: SubId)
         requires { accepts self.now pass.old }
-        ensures accepted { accepts self.now pass.new }
-        ensures number_unchanged { pass_number self.now pass.new ≡ pass_number self.now pass.old }
-        ensures step { step self.now (plain_key key.now) (unsubscribe id) pass.old tt pass.new }
-        ensures caches { caches_step self.now (plain_key key.now) (unsubscribe id) pass.old pass.new };
+        ensures call { IsCall accepts pass_number step caches_step self.now (plain_key key.now)
+            (unsubscribe id) pass.old tt pass.new };
 
     /// Returns the number of a pass, which each of its submissions has as `by`.
     fn by(&self, pass: &Self::Pass) -> u64

@@ -4,6 +4,7 @@ ghost use Rattle.sdb_oplog.specs.Decide.{refused};
 ghost use Rattle.sdb_oplog.specs.declared.codes.Code.TheVariants.{E10};
 ghost use Rattle.sdb_oplog.specs.Keys.{plain_key};
 ghost use Rattle.sdb_desk.specs.ReplyView.{plain_reply};
+ghost use Rattle.sdb_submit.specs.PassModel.{CanSubmit, IsNextPass};
 ghost use Rattle.sdb_submit.specs.SubmitLoop.{SubmitRelation};
 
 use crate::desk::{Desk, Gate};
@@ -33,10 +34,8 @@ pub fn submit<D: Desk, G: Gate>(
     now: Moment,
     gate: &G,
 ) -> Reply
-    requires accepted { D.accepts desk.now pass.old }
-    requires by { submission.by ≡ D.pass_number desk.now pass.old }
-    ensures accepted { D.accepts desk.now pass.new }
-    ensures number_unchanged { D.pass_number desk.now pass.new ≡ D.pass_number desk.now pass.old }
+    requires caller { CanSubmit D.accepts D.pass_number desk.now pass.old submission }
+    ensures pass { IsNextPass D.accepts D.pass_number desk.now pass.old pass.new }
     ensures chain { let k = plain_key key.now in
         SubmitRelation (D.step desk.now k) submission now pass.old (plain_reply result) pass.new }
 {

@@ -36,26 +36,26 @@ module _ (k : PlainKey) where
 
   -- one more call without a change is answered at an extension of the history
   has_seen_extension_step : (n : ℕ) (m : Machine) (c : PlainCall) (a : CallAnswer c) (p o : Pass) → HasSeenExtension n m p
-      → (d : AnsweredAtExtension k c p a o) → IsUnchanged (machine_of d.1.shard) (machine_of d.2.shard)
-      → Extends (machine_of d.1.shard) m × HasSeenExtension n m o
+      → (d : AnsweredAtExtension k c p a o) → IsUnchanged (machine_of d.history.shard) (machine_of d.next.shard)
+      → Extends (machine_of d.history.shard) m × HasSeenExtension n m o
   has_seen_extension_step n m c a p o h d same =
       let w = machine_of h.0.shard in
-      let at = machine_of d.1.shard in
-      let left = machine_of d.2.shard in
-      let one : d.0 ≡ h.0 = have_seen_unique p.seats (shard_of k) d.0 h.0 d.3 h.1 in
-      let ext : Extends at w = subst (λ (y : Held). Extends at (machine_of y.shard)) one d.4 in
+      let at = machine_of d.history.shard in
+      let left = machine_of d.next.shard in
+      let one : d.observed ≡ h.0 = have_seen_unique p.seats (shard_of k) d.observed h.0 d.seen_before h.1 in
+      let ext : Extends at w = subst (λ (y : Held). Extends at (machine_of y.shard)) one d.extends in
       let kept : share_of n w ≡ share_of n at =
       subst (λ (i : ℕ). share_of i w ≡ share_of i at) h.4
-      (subst (λ (y : Held). share_of (pass_number p) (machine_of y.shard) ≡ share_of (pass_number p) at) one d.5) in
+      (subst (λ (y : Held). share_of (pass_number p) (machine_of y.shard) ≡ share_of (pass_number p) at) one d.share_unchanged) in
       let is : left ≡ at = machine_of_unchanged at left same in
       let further : Extends at m = extends_trans m w at ext h.2 in (
         further,
         (
-          d.2,
-          d.7,
+          d.next,
+          d.seen_after,
           subst (λ (y : Machine). Extends y m) (sym is) further,
           h.3 ∙ kept ∙ ap (share_of n) (sym is),
-          d.8 ∙ h.4,
+          d.number_unchanged ∙ h.4,
         ),
       )
 
@@ -70,41 +70,53 @@ module _ (k : PlainKey) where
     take_none (e ∷ l) = refl
   batches_are_prefix n m v (x ∷ xs) p q h within (o, (d, more)) =
       let log = m.logs k in
-      let at = machine_of d.1.shard in
-      let next = has_seen_extension_step n m (ops_between v (v + x.size)) (Some x.entries) p o h d d.6.1 in
+      let at = machine_of d.history.shard in
+      let next = has_seen_extension_step n m (ops_between v (v + x.size)) (Some x.entries) p o h d d.ran.1 in
       let below = batches_are_prefix n m (v + x.size) xs o q next.1 (omega (arith, within)) more in
       let here : x.entries ≡ take x.size (drop v log) =
-      d.6.0 ∙ between_of_extension log (at.logs k) v (v + x.size) (omega (arith, within)) (next.0.logs k)
+      d.ran.0 ∙ between_of_extension log (at.logs k) v (v + x.size) (omega (arith, within)) (next.0.logs k)
       ∙ drop-take v x.size log in
       let there : entries_of xs ≡ take (total_size xs) (drop x.size (drop v log)) =
       below.0 ∙ ap (take (total_size xs)) (drop_drop v x.size log) in
       ((λ i. here i ++ there i) ∙ sym (take-add x.size (total_size xs) (drop v log)), below.1)
 
   -- the history at which the current version was read
-  start_of_listing : (p o : Pass) (n : ℕ) → (d : AnsweredAtExtension k current_version p n o) → HasSeenExtension (pass_number p) (machine_of d.1.shard) o
+  start_of_listing : (p o : Pass) (n : ℕ) → (d : AnsweredAtExtension k current_version p n o) → HasSeenExtension (pass_number p) (machine_of d.history.shard) o
   start_of_listing p o n d =
-      let at = machine_of d.1.shard in
-      let left = machine_of d.2.shard in
-      let is : left ≡ at = machine_of_unchanged at left d.6.1 in (
-        d.2,
-        d.7,
+      let at = machine_of d.history.shard in
+      let left = machine_of d.next.shard in
+      let is : left ≡ at = machine_of_unchanged at left d.ran.1 in (
+        d.next,
+        d.seen_after,
         subst (λ (y : Machine). Extends y at) (sym is) (extends_refl at),
         ap (share_of (pass_number p)) (sym is),
-        d.8,
+        d.number_unchanged,
       )
 
   end_of_listing : (v : ℕ) (p o q : Pass) (last : ℕ) (r : Result (List PlainEntry) Code) (d : AnsweredAtExtension k current_version p last o)
-      → ReadOrOutOfMemory is_nonempty r (operations_from ((machine_of d.1.shard).logs k) v)
-      → HasSeenExtension (pass_number p) (machine_of d.1.shard) q → ListedAtExtension k v p r q
-  end_of_listing v p o q last r d reads h = (d.0, d.1, h.0, d.3, d.4, d.5, reads, h.1, h.2, h.3)
+      → ReadOrOutOfMemory is_nonempty r (operations_from ((machine_of d.history.shard).logs k) v)
+      → HasSeenExtension (pass_number p) (machine_of d.history.shard) q → ListedAtExtension k v p r q
+  end_of_listing v p o q last r d reads h =
+      record {
+        observed = d.observed;
+        history = d.history;
+        next = h.0;
+        seen_before = d.seen_before;
+        extends = d.extends;
+        share_unchanged = d.share_unchanged;
+        listed = reads;
+        seen_after = h.1;
+        extends_after = h.2;
+        share_unchanged_after = h.3;
+      }
 
   -- a listing consists of entries of one history
   pub listed_at_one_history : (v : ℕ) (p q : Pass) (r : Result (List PlainEntry) Code) → ListsAll (PassCalls k) v p r q
       → ListedAtExtension k v p r q
   listed_at_one_history v p q (Ok es) (xs, (o, (d, reads, all))) =
-      let m = machine_of d.1.shard in
+      let m = machine_of d.history.shard in
       let log = m.logs k in
-      let last : v + total_size xs ≡ length log = d.6.0 in
+      let last : v + total_size xs ≡ length log = d.ran.0 in
       let below = batches_are_prefix (pass_number p) m v xs o q (start_of_listing p o (v + total_size xs) d) (omega (arith, last)) reads in
       let rest : total_size xs ≡ length log - v = omega (arith, last) in
       let entries : es ≡ drop v log =
@@ -112,18 +124,18 @@ module _ (k : PlainKey) where
       end_of_listing v p o q (v + total_size xs) (Ok es) d
       (inr (ap Ok entries ∙ sym (operations_reached log v (omega (arith, last))))) below.1
   listed_at_one_history v p q (Err code) (inl (last, (d, ahead, due))) =
-      let log = (machine_of d.1.shard).logs k in
-      let is : last ≡ length log = d.6.0 in
+      let log = (machine_of d.history.shard).logs k in
+      let is : last ≡ length log = d.ran.0 in
       end_of_listing v p q q last (Err code) d
       (inr (ap Err due ∙ sym (operations_too_new log v (omega (arith, is, ahead))))) (start_of_listing p q last d)
   listed_at_one_history v p q (Err code) (inr (last, (n, (o, (d, e, within, due))))) =
-      let m = machine_of d.1.shard in
+      let m = machine_of d.history.shard in
       let log = m.logs k in
-      let at = machine_of e.1.shard in
-      let is : last ≡ length log = d.6.0 in
-      let next = has_seen_extension_step (pass_number p) m (ops_between v n) None o q (start_of_listing p o last d) e e.6.1 in
+      let at = machine_of e.history.shard in
+      let is : last ≡ length log = d.ran.0 in
+      let next = has_seen_extension_step (pass_number p) m (ops_between v n) None o q (start_of_listing p o last d) e e.ran.1 in
       let same = between_of_extension log (at.logs k) v n (omega (arith, is, within)) (next.0.logs k) in
-      let some : is_nonempty (drop v log) ≡ true = between_not_empty log v n (ap is_nonempty (sym same) ∙ e.6.0) in
+      let some : is_nonempty (drop v log) ≡ true = between_not_empty log v n (ap is_nonempty (sym same) ∙ e.ran.0) in
       let long = length_of_not_empty (drop v log) some in
       let all = length-drop v log in
       let reached = operations_reached log v (omega (arith, long, all)) in

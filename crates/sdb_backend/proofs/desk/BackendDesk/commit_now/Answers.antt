@@ -1,6 +1,13 @@
+use Rattle.sdb_backend.proofs.StepLemmas.{run_at_same_history}
 use Rattle.sdb_backend.proofs.desk.BackendDesk.commit_now.Goals as goal
 
-pub returns-clause-step : goal.returns-clause-step
-returns-clause-step g c =
+pub returns : goal.returns
+returns g c =
     let d = c.run-reply.ensures.ran in
-    (d.0, d.1, d.2, d.3, d.4, d.5, d.6.0, d.7, c.run-reply.ensures.number_unchanged, c.run-reply.ensures.others_unchanged)
+    record {
+      call = record {
+        pass = record { accepted = c.run-reply.ensures.pass; number_unchanged = d.number_unchanged };
+        step = run_at_same_history d d.ran.0;
+        caches = tt;
+      };
+    }

@@ -8,4 +8,4 @@ pub returns-clause-seen : goal.returns-clause-seen
 returns-clause-seen g c =
     let d = c.run.ensures.ran in
     let k = plain_key c.args.key.now in
-    map_ok c.run.result (λ l h. (d.2, d.7, h)) (look_result_is_look (logs_of d.1.shard k) (logs_of d.2.shard k) c.args.submission.now c.run.result d.6.0 (ap (λ f. f k) d.6.1.0))
+    map_ok c.run.result (λ l h. (d.next, d.seen_after, h)) (look_result_is_look (logs_of d.history.shard k) (logs_of d.next.shard k) c.args.submission.now c.run.result d.ran.0 (ap (λ f. f k) d.ran.1.0))

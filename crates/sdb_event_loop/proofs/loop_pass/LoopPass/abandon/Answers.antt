@@ -9,10 +9,10 @@ abandon-requires g c =
 
 pub invariant_of-self : goal.invariant_of-self
 invariant_of-self g c =
-    let belongs = subst (λ s. IsPassOfBackend c.abandon.new.pass s.backend) c.deref.ensures c.abandon.ensures.accepted in
+    let belongs = subst (λ s. IsPassOfBackend c.abandon.new.pass s.backend) c.deref.ensures c.abandon.ensures.pass.accepted in
     record { belongs = c.args.context.now.names_backend.1 c.abandon.new.pass belongs }
 
 pub returns : goal.returns
 returns g c =
-    let belongs = subst (λ s. IsPassOfBackend c.abandon.new.pass s.backend) c.deref.ensures c.abandon.ensures.accepted in
-    (refl, belongs, c.abandon.ensures.number_unchanged)
+    let belongs = subst (λ s. IsPassOfBackend c.abandon.new.pass s.backend) c.deref.ensures c.abandon.ensures.pass.accepted in
+    (refl, belongs, c.abandon.ensures.pass.number_unchanged)

@@ -9,10 +9,10 @@ begin_to-requires g c =
 
 pub invariant_of-self : goal.invariant_of-self
 invariant_of-self g c =
-    let belongs = subst (λ s. IsPassOfBackend c.begin_to.new.pass s.backend) c.deref.ensures c.begin_to.ensures.accepted in
+    let belongs = subst (λ s. IsPassOfBackend c.begin_to.new.pass s.backend) c.deref.ensures c.begin_to.ensures.pass.accepted in
     record { belongs = c.args.context.now.names_backend.1 c.begin_to.new.pass belongs }
 
 pub returns : goal.returns
 returns g c =
-    let belongs = subst (λ s. IsPassOfBackend c.begin_to.new.pass s.backend) c.deref.ensures c.begin_to.ensures.accepted in
-    (refl, belongs, c.begin_to.ensures.number_unchanged)
+    let belongs = subst (λ s. IsPassOfBackend c.begin_to.new.pass s.backend) c.deref.ensures c.begin_to.ensures.pass.accepted in
+    (refl, belongs, c.begin_to.ensures.pass.number_unchanged)

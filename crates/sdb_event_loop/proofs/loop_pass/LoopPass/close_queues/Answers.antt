@@ -9,10 +9,10 @@ end-requires g c =
 
 pub invariant_of-self : goal.invariant_of-self
 invariant_of-self g c =
-    let belongs = subst (λ s. IsPassOfBackend c.end.new.pass s.backend) c.deref.ensures c.end.ensures.accepted in
+    let belongs = subst (λ s. IsPassOfBackend c.end.new.pass s.backend) c.deref.ensures c.end.ensures.pass.accepted in
     record { belongs = c.args.context.now.names_backend.1 c.end.new.pass belongs }
 
 pub returns : goal.returns
 returns g c =
-    let belongs = subst (λ s. IsPassOfBackend c.end.new.pass s.backend) c.deref.ensures c.end.ensures.accepted in
-    (refl, belongs, c.end.ensures.number_unchanged)
+    let belongs = subst (λ s. IsPassOfBackend c.end.new.pass s.backend) c.deref.ensures c.end.ensures.pass.accepted in
+    (refl, belongs, c.end.ensures.pass.number_unchanged)

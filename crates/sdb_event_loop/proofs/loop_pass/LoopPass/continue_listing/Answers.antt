@@ -9,10 +9,10 @@ continue_to-requires g c =
 
 pub invariant_of-self : goal.invariant_of-self
 invariant_of-self g c =
-    let belongs = subst (λ s. IsPassOfBackend c.continue_to.new.pass s.backend) c.deref.ensures c.continue_to.ensures.accepted in
+    let belongs = subst (λ s. IsPassOfBackend c.continue_to.new.pass s.backend) c.deref.ensures c.continue_to.ensures.pass.accepted in
     record { belongs = c.args.context.now.names_backend.1 c.continue_to.new.pass belongs }
 
 pub returns : goal.returns
 returns g c =
-    let belongs = subst (λ s. IsPassOfBackend c.continue_to.new.pass s.backend) c.deref.ensures c.continue_to.ensures.accepted in
-    (refl, belongs, c.continue_to.ensures.number_unchanged)
+    let belongs = subst (λ s. IsPassOfBackend c.continue_to.new.pass s.backend) c.deref.ensures c.continue_to.ensures.pass.accepted in
+    (refl, belongs, c.continue_to.ensures.pass.number_unchanged)

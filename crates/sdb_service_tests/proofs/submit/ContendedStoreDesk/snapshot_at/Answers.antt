@@ -1,10 +1,17 @@
+use Rattle.std.proofs.Common.{refl}
 use Rattle.sdb_oplog.specs.Keys.{plain_key}
 use Rattle.sdb_desk.specs.ShardView.{logs_of, queues_of, state_of}
 use Rattle.sdb_desk.specs.View.{fetch_result_view}
 use Rattle.sdb_submit.specs.laws.ShardLaws.{snapshot_call}
 use Rattle.sdb_service_tests.proofs.submit.ContendedStoreDesk.snapshot_at.Goals as goal
 
-pub returns-clause-step : goal.returns-clause-step
-returns-clause-step c =
+pub returns : goal.returns
+returns c =
     let s = c.args.pass.now.shard in
-    (logs_of s, (queues_of s, (snapshot_call 0 (plain_key c.args.key.now) (state_of s) (state_of c.snapshot_at.new.self) c.args.version (fetch_result_view c.snapshot_at.result) c.snapshot_at.ensures.snapshot c.snapshot_at.ensures.cache).step))
+    record {
+      call = record {
+        pass = record { accepted = tt; number_unchanged = refl };
+        step = (logs_of s, (queues_of s, (snapshot_call 0 (plain_key c.args.key.now) (state_of s) (state_of c.snapshot_at.new.self) c.args.version (fetch_result_view c.snapshot_at.result) c.snapshot_at.ensures.snapshot c.snapshot_at.ensures.cache).step));
+        caches = tt;
+      };
+    }

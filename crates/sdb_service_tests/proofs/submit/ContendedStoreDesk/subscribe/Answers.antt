@@ -1,10 +1,17 @@
+use Rattle.std.proofs.Common.{refl}
 use Rattle.sdb_oplog.specs.Keys.{plain_key}
 use Rattle.sdb_desk.specs.ShardView.{logs_of, queues_of, state_of}
 use Rattle.sdb_desk.specs.View.{subscribe_result_view}
 use Rattle.sdb_submit.specs.laws.ShardLaws.{subscribe_call}
 use Rattle.sdb_service_tests.proofs.submit.ContendedStoreDesk.subscribe.Goals as goal
 
-pub returns-clause-step : goal.returns-clause-step
-returns-clause-step c =
+pub returns : goal.returns
+returns c =
     let s = c.args.pass.now.shard in
-    (logs_of s, (queues_of s, (subscribe_call 0 (plain_key c.args.key.now) (state_of s) (state_of c.subscribe.new.self) c.args.version (subscribe_result_view c.subscribe.result) c.subscribe.ensures.subscribes c.subscribe.ensures.state).step))
+    record {
+      call = record {
+        pass = record { accepted = tt; number_unchanged = refl };
+        step = (logs_of s, (queues_of s, (subscribe_call 0 (plain_key c.args.key.now) (state_of s) (state_of c.subscribe.new.self) c.args.version (subscribe_result_view c.subscribe.result) c.subscribe.ensures.subscribes c.subscribe.ensures.state).step));
+        caches = tt;
+      };
+    }

@@ -10,7 +10,7 @@ returns-in-None-clause-read g c =
     let acts = g.D.Desk.step c.args.desk.now in
     let R : Option ℕ → Type 0 = λ o. IfOk c.ops_between.result (λ entries. ReadsFrom acts o (plain_key l.base) l.next (record { size = c.args.size; entries = entries.items } ∷ []) c.args.pass.now c.ops_between.new.pass) in
     subst R (sym c.in-None.is)
-    (log_read acts (plain_key l.base) l.next l.end c.args.size c.args.pass.now c.ops_between.new.pass c.ops_between.result c.version_after.result c.version_after.ensures c.ops_between.ensures.step)
+    (log_read acts (plain_key l.base) l.next l.end c.args.size c.args.pass.now c.ops_between.new.pass c.ops_between.result c.version_after.result c.version_after.ensures c.ops_between.ensures.call.step)
 
 pub returns-in-Some-clause-read : goal.returns-in-Some-clause-read
 returns-in-Some-clause-read g c =

@@ -18,12 +18,12 @@ loop-queue-preserved g c =
     let e : Key × Subscription = (c.in-Some.field-0-0.now, c.in-Some.queue.now) in
     let rest = c.next.new.self in
     record {
-      pass = next_pass_trans c.loop-queue.invariant.pass (record { accepted = c.unsubscribe.ensures.accepted; number_unchanged = c.unsubscribe.ensures.number_unchanged });
+      pass = next_pass_trans c.loop-queue.invariant.pass c.unsubscribe.ensures.call.pass;
       so_far = (
         far.0 ++ plain_subscription e ∷ [],
         (
           append_assoc far.0 (plain_subscription e ∷ []) (map plain_subscription rest) ∙ ap (λ es. far.0 ++ map plain_subscription es) (sym c.in-Some.ensures.steps) ∙ far.1.0,
-          closed_more (g.D.Desk.step c.args.desk.now) far.0 (plain_subscription e) c.args.pass.now c.loop-queue.pass c.unsubscribe.new.pass far.1.1 c.unsubscribe.ensures.step,
+          closed_more (g.D.Desk.step c.args.desk.now) far.0 (plain_subscription e) c.args.pass.now c.loop-queue.pass c.unsubscribe.new.pass far.1.1 c.unsubscribe.ensures.call.step,
         ),
       );
     }

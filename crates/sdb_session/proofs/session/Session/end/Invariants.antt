@@ -1,5 +1,5 @@
 use Rattle.std.proofs.Common.{◌≡◌, List, ◌++◌, map}
-use Rattle.sdb_session.specs.PassModel.{IsNextPass}
+use Rattle.sdb_submit.specs.PassModel.{IsNextPass}
 use Rattle.sdb_session.specs.PumpModel.{CloseAllCalls}
 use Rattle.sdb_session.specs.Sessions.{PlainSubscription}
 use Rattle.sdb_session.specs.View.{plain_subscription}

@@ -23,7 +23,7 @@ returns-then-present-from-clause-outcome g c =
     let seen : plain_projection_option c.find.result ≡ projection_of_key t k = c.find.ensures ∙ ap (λ n. projection_of n t) c.as_str.ensures.value in
     equal_part _ _ _ _ _ s _ says s _ _ _ _ _ refl c.without_listing.ensures
     (answered _ _ _ _ _ s _ says s _ _ w
-    (newer_outcome (policy_of_context g.P.Policy.plain_policy c.args.context.now) k seen c.args.from c.version-present.result (plain_key c.in_ok-base.base) c.in_ok-base.ensures c.version-present.ensures.step c.if-present-from.true (on_output w says (failed e E4 ∷ []) c.write_refusal-refused.ensures)))
+    (newer_outcome (policy_of_context g.P.Policy.plain_policy c.args.context.now) k seen c.args.from c.version-present.result (plain_key c.in_ok-base.base) c.in_ok-base.ensures c.version-present.ensures.call.step c.if-present-from.true (on_output w says (failed e E4 ∷ []) c.write_refusal-refused.ensures)))
 
 pub returns-clause-outcome : goal.returns-clause-outcome
 returns-clause-outcome g c =
@@ -36,7 +36,7 @@ returns-clause-outcome g c =
     let listing : PlainKey → PlainListing = λ x. record { key = k; base = x; next = c.args.from; end = v; queue = None } in
     c.begin_listing.ensures.outcome (fetch k (Some c.args.from)) c.args.pass.now (g.D.Desk.pass_number c.args.context.now.desk.now c.args.pass.now) (record {
       end = v;
-      reads = subst (λ x. acts x current_version c.args.pass.now v c.version-present.new.pass) b c.version-present.ensures.step;
+      reads = subst (λ x. acts x current_version c.args.pass.now v c.version-present.new.pass) b c.version-present.ensures.call.step;
       within = c.if-present-from.false;
       listing_is = ap listing b;
     })

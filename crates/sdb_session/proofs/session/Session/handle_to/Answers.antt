@@ -33,7 +33,7 @@ loop-rest-preserved g c =
     ListingPart (g.D.Desk.step c.args.desk.now) {E = AllocError} t (plain_listing c.in-Some.listing) (plain_session c.loop-rest.self) c.loop-rest.pass (Ok (option_map plain_listing c.in_ok-rest.rest))
     (WroteAnswers f mid new) (plain_session c.continue_to.new.self) c.continue_to.new.pass in
     record {
-      pass = next_pass_trans c.loop-rest.invariant.pass (record { accepted = c.in_ok-rest.ensures.accepted; number_unchanged = c.in_ok-rest.ensures.number_unchanged });
+      pass = next_pass_trans c.loop-rest.invariant.pass c.in_ok-rest.ensures.pass;
       alive = c.in_ok-rest.ensures.ended;
       request = c.loop-rest.invariant.request;
       outcome =

@@ -3,7 +3,7 @@ use Rattle.std.specs.Result.{is_ok}
 use Rattle.std.specs.declared.alloc.AllocError.{AllocError}
 use Rattle.sdb_session.specs.Listing.{PlainListing, TextPart}
 use Rattle.sdb_session.specs.ListingView.{plain_listing}
-use Rattle.sdb_session.specs.PassModel.{IsNextPass}
+use Rattle.sdb_submit.specs.PassModel.{IsNextPass}
 use Rattle.sdb_session.specs.View.{WroteAnswers, has_ended, plain_session}
 use Rattle.sdb_wire.specs.Wire.{parse_message}
 use Rattle.sdb_session.proofs.ListingPartLemmas.{left_to_write}

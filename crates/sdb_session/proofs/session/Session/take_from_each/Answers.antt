@@ -9,7 +9,7 @@ use Rattle.sdb_session.specs.Responses.{entry_answers}
 use Rattle.sdb_session.specs.declared.subscriptions.Subscription.{Subscription}
 use Rattle.sdb_session.specs.View.{plain_subscription, queue_id_of, plain_session}
 use Rattle.sdb_session.proofs.PassLemmas.{next_pass_trans}
-use Rattle.sdb_session.proofs.PumpLemmas.{takes_more, takes_none, output_more, counts_more, pieces_more, taken_sub, on_err_any}
+use Rattle.sdb_session.proofs.PumpLemmas.{takes_more, takes_none, output_more, counts_more, pieces_more, taken_sub, pump_stopped}
 use Rattle.sdb_session.proofs.session.Session.take_from_each.Goals as goal
 
 pub loop-key-init : goal.loop-key-init
@@ -25,10 +25,10 @@ loop-key-init g c = record {
   };
 }
 
-pub returns-in_err-entries-clause-interrupted : goal.returns-in_err-entries-clause-interrupted
-returns-in_err-entries-clause-interrupted g c =
+pub returns-in_err-entries-clause-pumped : goal.returns-in_err-entries-clause-pumped
+returns-in_err-entries-clause-pumped g c =
     let far = c.loop-key.invariant.so_far in
-    on_err_any c.from_residual.result (record {
+    pump_stopped _ _ _ _ _ _ c.from_residual.result _ _ c.from_residual.ensures.0 (record {
       takes = far.takes;
       subs_left = map plain_subscription c.loop-key.key-iterator;
       between = c.loop-key.pass;
@@ -37,13 +37,13 @@ returns-in_err-entries-clause-interrupted g c =
       last = inr (queue_id_of c.in-Some.queue.now, (None, c.in_err-entries.ensures.takes_one));
     })
 
-pub returns-in_err-write_entries_of_others-clause-interrupted : goal.returns-in_err-write_entries_of_others-clause-interrupted
-returns-in_err-write_entries_of_others-clause-interrupted g c =
+pub returns-in_err-write_entries_of_others-clause-pumped : goal.returns-in_err-write_entries_of_others-clause-pumped
+returns-in_err-write_entries_of_others-clause-pumped g c =
     let far = c.loop-key.invariant.so_far in
     let e : Key × Subscription = (c.in-Some.key.now, c.in-Some.queue.now) in
     let x : PlainTake = record { sub = plain_subscription e; entries = c.in_ok-entries.entries.items } in
     let rest = c.next.new.self in
-    on_err_any c.from_residual-in_err-write_entries_of_others.result (record {
+    pump_stopped _ _ _ _ _ _ c.from_residual-in_err-write_entries_of_others.result _ _ c.from_residual-in_err-write_entries_of_others.ensures.0 (record {
       takes = far.takes ++ x ∷ [];
       subs_left = map plain_subscription rest;
       between = c.take_entries.new.pass;

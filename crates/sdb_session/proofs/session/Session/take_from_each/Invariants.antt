@@ -1,5 +1,5 @@
 use Rattle.std.proofs.Common.{◌+◌, ◌*◌, ◌≤◌, length, map}
-use Rattle.sdb_session.specs.PassModel.{IsNextPass}
+use Rattle.sdb_submit.specs.PassModel.{IsNextPass}
 use Rattle.sdb_session.specs.View.{plain_subscription, plain_session, WroteAnswers}
 use Rattle.sdb_session.proofs.PumpLemmas.{PumpedSoFar}
 use Rattle.sdb_session.proofs.session.Session.take_from_each.Given as goal

@@ -1,3 +1,4 @@
+use Rattle.std.proofs.Common.{refl}
 use Rattle.sdb_oplog.specs.Keys.{plain_key}
 use Rattle.sdb_desk.specs.ShardView.{logs_of, state_of}
 use Rattle.sdb_desk.specs.View.{plain_outcome}
@@ -9,9 +10,7 @@ pub returns-clause-seen : goal.returns-clause-seen
 returns-clause-seen c =
     moved_is_look (logs_of c.args.pass.now) (logs_of c.commit.new.self) (plain_key c.args.key.now) c.args.work.now c.args.now (plain_outcome c.commit.result) c.commit.ensures.commits.commits
 
-pub returns-clause-step : goal.returns-clause-step
-returns-clause-step c =
-    (commit_call 0 (plain_key c.args.key.now) (state_of c.args.pass.now) (state_of c.commit.new.self) c.args.work.now c.args.now (plain_outcome c.commit.result) c.commit.ensures.commits).step
-
-pub returns-clause-caches : goal.returns-clause-caches
-returns-clause-caches c = c.commit.ensures.commits.others.caches_unchanged
+pub returns-clause-call : goal.returns-clause-call
+returns-clause-call c =
+    let x = commit_call 0 (plain_key c.args.key.now) (state_of c.args.pass.now) (state_of c.commit.new.self) c.args.work.now c.args.now (plain_outcome c.commit.result) c.commit.ensures.commits in
+    record { pass = record { accepted = tt; number_unchanged = refl }; step = x.step; caches = c.commit.ensures.commits.others.caches_unchanged }

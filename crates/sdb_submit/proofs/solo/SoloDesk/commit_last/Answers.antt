@@ -1,15 +1,12 @@
+use Rattle.std.proofs.Common.{refl}
 use Rattle.sdb_oplog.specs.Keys.{plain_key}
 use Rattle.sdb_desk.specs.ShardView.{state_of}
 use Rattle.sdb_desk.specs.ReplyView.{plain_reply}
 use Rattle.sdb_submit.specs.laws.ShardLaws.{commit_now_call}
 use Rattle.sdb_submit.proofs.solo.SoloDesk.commit_last.Goals as goal
 
-pub returns-clause-step : goal.returns-clause-step
-returns-clause-step c =
+pub returns : goal.returns
+returns c =
     let s = c.args.pass.now in
-    (commit_now_call 0 (plain_key c.args.key.now) (state_of s) (state_of c.commit_last.new.self) c.args.work.submission c.args.now (plain_reply c.commit_last.result) c.commit_last.ensures).step
-
-pub returns-clause-caches : goal.returns-clause-caches
-returns-clause-caches c =
-    let s = c.args.pass.now in
-    (commit_now_call 0 (plain_key c.args.key.now) (state_of s) (state_of c.commit_last.new.self) c.args.work.submission c.args.now (plain_reply c.commit_last.result) c.commit_last.ensures).caches
+    let x = commit_now_call 0 (plain_key c.args.key.now) (state_of s) (state_of c.commit_last.new.self) c.args.work.submission c.args.now (plain_reply c.commit_last.result) c.commit_last.ensures in
+    record { call = record { pass = record { accepted = tt; number_unchanged = refl }; step = x.step; caches = x.caches } }

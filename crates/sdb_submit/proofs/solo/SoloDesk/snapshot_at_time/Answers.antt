@@ -1,15 +1,12 @@
+use Rattle.std.proofs.Common.{refl}
 use Rattle.sdb_oplog.specs.Keys.{plain_key}
 use Rattle.sdb_desk.specs.ShardView.{state_of}
 use Rattle.sdb_desk.specs.View.{fetch_result_view}
 use Rattle.sdb_submit.specs.laws.ShardLaws.{snapshot_at_time_call}
 use Rattle.sdb_submit.proofs.solo.SoloDesk.snapshot_at_time.Goals as goal
 
-pub returns-clause-step : goal.returns-clause-step
-returns-clause-step c =
+pub returns : goal.returns
+returns c =
     let s = c.args.pass.now in
-    (snapshot_at_time_call 0 (plain_key c.args.key.now) (state_of s) (state_of c.snapshot_at_time.new.self) c.args.moment (fetch_result_view c.snapshot_at_time.result) c.snapshot_at_time.ensures.snapshot c.snapshot_at_time.ensures.cache).step
-
-pub returns-clause-caches : goal.returns-clause-caches
-returns-clause-caches c =
-    let s = c.args.pass.now in
-    (snapshot_at_time_call 0 (plain_key c.args.key.now) (state_of s) (state_of c.snapshot_at_time.new.self) c.args.moment (fetch_result_view c.snapshot_at_time.result) c.snapshot_at_time.ensures.snapshot c.snapshot_at_time.ensures.cache).caches
+    let x = snapshot_at_time_call 0 (plain_key c.args.key.now) (state_of s) (state_of c.snapshot_at_time.new.self) c.args.moment (fetch_result_view c.snapshot_at_time.result) c.snapshot_at_time.ensures.snapshot c.snapshot_at_time.ensures.cache in
+    record { call = record { pass = record { accepted = tt; number_unchanged = refl }; step = x.step; caches = x.caches } }

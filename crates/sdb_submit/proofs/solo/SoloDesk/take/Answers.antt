@@ -1,15 +1,12 @@
+use Rattle.std.proofs.Common.{refl}
 use Rattle.sdb_oplog.specs.Keys.{plain_key}
 use Rattle.sdb_desk.specs.ShardView.{state_of}
 use Rattle.sdb_desk.specs.View.{taken_view}
 use Rattle.sdb_submit.specs.laws.ShardLaws.{take_call}
 use Rattle.sdb_submit.proofs.solo.SoloDesk.take.Goals as goal
 
-pub returns-clause-step : goal.returns-clause-step
-returns-clause-step c =
+pub returns : goal.returns
+returns c =
     let s = c.args.pass.now in
-    (take_call 0 (plain_key c.args.key.now) (state_of s) (state_of c.take.new.self) c.args.id c.args.max (taken_view c.take.result) c.take.ensures).step
-
-pub returns-clause-caches : goal.returns-clause-caches
-returns-clause-caches c =
-    let s = c.args.pass.now in
-    (take_call 0 (plain_key c.args.key.now) (state_of s) (state_of c.take.new.self) c.args.id c.args.max (taken_view c.take.result) c.take.ensures).caches
+    let x = take_call 0 (plain_key c.args.key.now) (state_of s) (state_of c.take.new.self) c.args.id c.args.max (taken_view c.take.result) c.take.ensures in
+    record { call = record { pass = record { accepted = tt; number_unchanged = refl }; step = x.step; caches = x.caches } }
