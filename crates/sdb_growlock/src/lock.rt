@@ -1,8 +1,7 @@
 //! The operations of a lock and its seats.
 ghost use Rattle.std.specs.Prelude.{◌≡◌, ◌≢◌, ℕ, ◌+◌, ◌<◌, ◌≤◌, map, [], ◌∷◌, IfOk, IfErr, IsTrue, IsFalse};
 ghost use Rattle.sdb_growlock.specs.LockRule.{ForEach, AcquiresValue, idle_view, observation, holder_view, released_view, splitter_view, split_off_view, join_views, join_all_views};
-ghost use Rattle.sdb_growlock.specs.SeatModel.{BelongsTo, HasSeen, number, next, seat_count, HasNumber};
-ghost use Rattle.sdb_growlock.specs.SeatModel as model;
+ghost use Rattle.sdb_growlock.specs.SeatModel.{BelongsTo, HasSeen, number, next, seat_count, HasNumber, IsFirstSeat, IsSameSeat, IsNewSeat};
 
 use crate::grow_lock::{GrowLock, Seat};
 use crate::grows::{Grows, Job};
@@ -37,9 +36,7 @@ impl<T: Grows> GrowLock<T> {
     pub fn new(alloc: Global, value: T, next: u64) -> Result<(GrowLock<T>, Seat<T>), T>
         requires first { 0 < next }
         requires blank { (k : ℕ) → next ≤ k → T.blank k value }
-        ensures belongs { IfOk result (λ made. BelongsTo made.1 made.0) }
-        ensures first { IfOk result (λ made. (number made.1 ≡ 0) × (model.next made.1 ≡ next)) }
-        ensures seen { IfOk result (λ made. HasSeen made.1 value) }
+        ensures ok { IfOk result (λ made. IsFirstSeat made.0 next value made.1) }
         ensures err { IfErr result (λ given. given ≡ value) }
     {
         let mut slots = match Vec::with_capacity(alloc, 1) {
@@ -76,8 +73,7 @@ impl<T: Grows> GrowLock<T> {
         requires belongs { BelongsTo seat.old self.now }
         requires ready { (x v : T) → HasSeen seat.old x → T.extends v x → T.same (number seat.old) x v
             → J.precondition job (number seat.old) v }
-        ensures belongs { BelongsTo seat.new self.now }
-        ensures number_unchanged { (number seat.new ≡ number seat.old) × (next seat.new ≡ next seat.old) }
+        ensures seat { IsSameSeat self.now seat.old seat.new }
         ensures ran { (x v w : T) × HasSeen seat.old x × T.extends v x × T.same (number seat.old) x v
             × J.postcondition job (number seat.old) v w result × T.extends w v
             × ((k : ℕ) → k ≢ number seat.old → T.same k v w) × HasSeen seat.new w }
@@ -102,11 +98,8 @@ impl<T: Grows> GrowLock<T> {
     pub fn split(&self, seat: &mut Seat<T>) -> Result<Seat<T>, SplitFault>
         requires belongs { BelongsTo seat.old self.now }
         requires first { 0 < next seat.old }
-        ensures belongs { BelongsTo seat.new self.now × (number seat.new ≡ number seat.old) }
-        ensures split_seat { IfOk result (λ s. BelongsTo s self.now × (number s ≡ next seat.old) × (next s ≡ 0)) }
-        ensures next { IfOk result (λ s. next seat.new ≡ next seat.old + 1) }
-        ensures seen { IfOk result (λ s. (x : T) × HasSeen seat.old x × HasSeen seat.new x × HasSeen s x
-            × T.blank (number s) x) }
+        ensures belongs { BelongsTo seat.new self.now }
+        ensures ok { IfOk result (λ s. IsNewSeat T.blank self.now seat.old seat.new s) }
         ensures err { IfErr result (λ _. (next seat.old ≡ u64.MAX) × (seat.new ≡ seat.old)) }
     {
         if seat.next == u64::MAX {
@@ -126,10 +119,8 @@ impl<T: Grows> GrowLock<T> {
     /// new. It doesn't wait.
     pub fn compare(&self, first: &mut Seat<T>, second: &mut Seat<T>)
         requires belongs { BelongsTo first.old self.now × BelongsTo second.old self.now }
-        ensures first_unchanged { BelongsTo first.new self.now × (number first.new ≡ number first.old)
-            × (next first.new ≡ next first.old) }
-        ensures second_unchanged { BelongsTo second.new self.now × (number second.new ≡ number second.old)
-            × (next second.new ≡ next second.old) }
+        ensures first { IsSameSeat self.now first.old first.new }
+        ensures second { IsSameSeat self.now second.old second.new }
         ensures extended { (x y v : T) × HasSeen first.old x × HasSeen first.new x × HasSeen second.old y
             × HasSeen second.new y × T.extends v x × T.extends v y }
     {
