@@ -1,6 +1,6 @@
 -- Facts about each index of some lists. The default for an index outside a list doesn't matter.
 use Rattle.std.specs.Prelude.{ℕ, ◌<◌, ◌≤◌, List, slice_index_or}
-use Rattle.sdb_growlock.specs.SeatModel.{HasSeen, number}
+use Rattle.sdb_growlock.specs.SeatModel.{HasSeen}
 use Rattle.sdb_growlock.specs.declared.grow_lock.Seat.{Seat}
 
 module _ {A B : Type 0} where
@@ -11,7 +11,3 @@ module _ {A B : Type 0} where
 -- the seat at an index has observed this value
 abbrev pub HasSeenAt : {T : Type 0} → List (Seat T) → ℕ → T → Type 0
 HasSeenAt seats i x = (s : Seat _) → HasSeen (slice_index_or seats i s) x
-
--- three seats have observed this value, without a part of the last one's number
-abbrev pub SeeSameBlankValue : {T : Type 0} → (ℕ → T → Type 0) → Seat T → Seat T → Seat T → Type 0
-SeeSameBlankValue blank a b c = (x : _) × HasSeen a x × HasSeen b x × HasSeen c x × blank (number c) x

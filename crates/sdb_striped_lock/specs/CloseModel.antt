@@ -1,5 +1,5 @@
 -- The values that a close returns.
-use Rattle.std.specs.Prelude.{ℕ, ◌<◌, ◌≤◌, List}
+use Rattle.std.specs.Prelude.{◌≡◌, ℕ, ◌<◌, ◌≤◌, List, length, slice_index_or}
 use Rattle.sdb_growlock.specs.LockRule.{ForEach}
 use Rattle.sdb_growlock.specs.declared.grow_lock.Seat.{Seat}
 use Rattle.sdb_growlock.specs.SeatModel.{HasSeen, HasNumber, seat_count}
@@ -23,6 +23,11 @@ module _ {T : Type 0} (extends : T → T → Type 0) (same : ℕ → T → T →
     pub extends_root : ExtendsAndKeeps i 0 first.seats.items v
     pub others : ForEach (λ c. ExtendsAndKeeps i c.number c.seats.items v) callers
     pub blank_elsewhere : (k : ℕ) → first.next ≤ k → blank k v
+
+  -- a close returns eight values, one for each lock
+  pub record AreCloseResults (first : RootSeats T) (callers : List (SeatSet T)) (values : List T) : Type 0 where
+    pub length : length values ≡ 8
+    pub each : (i : ℕ) (d : T) → i < 8 → IsCloseResult first callers i (slice_index_or values i d)
 
   -- the value that one lock returns for its seats
   abbrev pub IsValueAfterClose : List (Seat T) → T → Type 0

@@ -1,5 +1,5 @@
 -- The definitions that contracts of eight locks and their callers use.
-use Rattle.std.specs.Prelude.{◌≡◌, ◌≢◌, ℕ, ◌<◌, List, map, slice_index_or}
+use Rattle.std.specs.Prelude.{◌≡◌, ◌≢◌, ℕ, ◌+◌, ◌<◌, List, map, slice_index_or}
 use Rattle.sdb_growlock.specs.LockRule.{IsAmong}
 use Rattle.sdb_growlock.specs.SeatModel.{BelongsTo}
 use Rattle.sdb_growlock.specs.SeatModel as one
@@ -9,6 +9,8 @@ use Rattle.sdb_striped_lock.specs.AtIndex.{AtEachIndex, HasSeenAt}
 use Rattle.sdb_striped_lock.specs.declared.striped_lock.StripedLock.{StripedLock}
 use Rattle.sdb_striped_lock.specs.declared.striped_lock.SeatSet.{SeatSet}
 use Rattle.sdb_striped_lock.specs.declared.striped_lock.RootSeats.{RootSeats}
+use Rattle.sdb_striped_lock.specs.declared.operations.SplitFault.{SplitFault}
+use Rattle.sdb_striped_lock.specs.declared.operations.SplitFault.TheVariants.{OutOfNumbers, OutOfMemory}
 
 -- a seat of the lock with this number that isn't the first; and the first seat, with this next number
 abbrev pub IsSeatNumbered : {T : Type 0} → ℕ → Seat T → GrowLock T → Type 0
@@ -44,6 +46,27 @@ module _ {T : Type 0} where
   abbrev pub ChangedOnlyAt : ℕ → SeatSet T → SeatSet T → Type 0
   ChangedOnlyAt i old new = (j : ℕ) (s : Seat T) → j ≢ i
       → slice_index_or new.seats.items j s ≡ slice_index_or old.seats.items j s
+
+  -- the seats still belong to the locks, with the same number, and only the seat at this index changed
+  pub record IsSameSeatSet (l : StripedLock T) (i : ℕ) (old new : SeatSet T) : Type 0 where
+    pub belongs : SeatSetBelongsTo new l
+    pub number_unchanged : seat_set_number new ≡ seat_set_number old
+    pub others_unchanged : ChangedOnlyAt i old new
+
+  -- the new caller has the next number, which then grows by one; its seats have observed what the first seats have
+  pub record IsNewSeatSet (blank : ℕ → T → Type 0) (l : StripedLock T) (old new : RootSeats T) (s : SeatSet T) : Type 0 where
+    pub belongs : SeatSetBelongsTo s l
+    pub has_number : seat_set_number s ≡ next_seat_set_number old
+    pub below_max : next_seat_set_number old < 18446744073709551615
+    pub next_grows : next_seat_set_number new ≡ next_seat_set_number old + 1
+    pub seen : (i : ℕ) → i < 8
+        → (x : T) × RootSeatsHaveSeen old i x × RootSeatsHaveSeen new i x × SeatSetHasSeen s i x × blank (seat_set_number s) x
+
+  -- a refused split leaves the first seats unchanged; its reason is that the numbers are used up, or the memory
+  pub record IsSplitRefusal (old new : RootSeats T) (e : SplitFault) : Type 0 where
+    pub unchanged : new ≡ old
+    pub numbers_exhausted : e ≡ OutOfNumbers → next_seat_set_number old ≡ 18446744073709551615
+    pub memory : e ≡ OutOfMemory → next_seat_set_number old ≢ 18446744073709551615
 
   -- one of these callers has number k
   abbrev pub HasNumber : ℕ → List (SeatSet T) → Type 0

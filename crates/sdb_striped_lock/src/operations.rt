@@ -2,13 +2,12 @@
 ghost use Rattle.std.specs.Prelude.{◌≡◌, ◌≢◌, ℕ, ◌+◌, ◌<◌, ◌≤◌, [], List, Vec, IfOk, IfErr, OnErr, length, slice_index_or, vec_len, vec_capacity};
 ghost use Rattle.std.specs.Global.{Global};
 ghost use Rattle.sdb_growlock.specs.LockRule.{ForEach};
-ghost use Rattle.sdb_growlock.specs.SeatModel.{BelongsTo};
+ghost use Rattle.sdb_growlock.specs.SeatModel.{BelongsTo, SeeSameBlankValue};
 ghost use Rattle.sdb_growlock.specs.declared.grow_lock.Seat.{Seat as LockSeat};
-ghost use Rattle.sdb_striped_lock.specs.CloseModel.{IsCloseResult, HasEverySeat, IsValueAfterClose};
-ghost use Rattle.sdb_striped_lock.specs.AtIndex.{AtEachIndex, SeeSameBlankValue};
+ghost use Rattle.sdb_striped_lock.specs.CloseModel.{AreCloseResults, HasEverySeat, IsValueAfterClose};
+ghost use Rattle.sdb_striped_lock.specs.AtIndex.{AtEachIndex};
 ghost use Rattle.sdb_striped_lock.specs.Capacity.{HasCapacity};
-ghost use Rattle.sdb_striped_lock.specs.SeatSetModel.{seat_set_number, next_seat_set_number, SeatSetBelongsTo, AreRootSeatsOf, IsSeatNumbered, IsRootSeat, SeatSetHasSeen, RootSeatsHaveSeen, ChangedOnlyAt, HasNumber};
-ghost use Rattle.sdb_striped_lock.specs.declared.operations.SplitFault.TheVariants.{OutOfNumbers, OutOfMemory};
+ghost use Rattle.sdb_striped_lock.specs.SeatSetModel.{seat_set_number, next_seat_set_number, SeatSetBelongsTo, AreRootSeatsOf, IsSeatNumbered, IsRootSeat, SeatSetHasSeen, RootSeatsHaveSeen, HasNumber, IsSameSeatSet, IsNewSeatSet, IsSplitRefusal};
 
 use crate::close_buffers::{CloseBuffers, STRIPES, gather_stripes};
 use crate::striped_lock::{RootSeats, SeatSet, StripedLock};
@@ -101,9 +100,7 @@ impl<T: Grows> StripedLock<T> {
         requires ready { (x v : T) → SeatSetHasSeen seats.old index x → T.extends v x
             → T.same (seat_set_number seats.old) x v
             → J.precondition job (seat_set_number seats.old) v }
-        ensures belongs { SeatSetBelongsTo seats.new self.now }
-        ensures number_unchanged { seat_set_number seats.new ≡ seat_set_number seats.old }
-        ensures others_unchanged { ChangedOnlyAt index seats.old seats.new }
+        ensures seats { IsSameSeatSet self.now index seats.old seats.new }
         ensures ran { (x v w : T) × SeatSetHasSeen seats.old index x × T.extends v x
             × T.same (seat_set_number seats.old) x v
             × J.postcondition job (seat_set_number seats.old) v w result × T.extends w v
@@ -117,12 +114,8 @@ impl<T: Grows> StripedLock<T> {
     pub fn compare(&self, first: &mut SeatSet<T>, second: &mut SeatSet<T>, index: usize)
         requires index { index < 8 }
         requires belongs { SeatSetBelongsTo first.old self.now × SeatSetBelongsTo second.old self.now }
-        ensures first { SeatSetBelongsTo first.new self.now }
-        ensures second { SeatSetBelongsTo second.new self.now }
-        ensures numbers_unchanged { (seat_set_number first.new ≡ seat_set_number first.old)
-            × (seat_set_number second.new ≡ seat_set_number second.old) }
-        ensures others_unchanged { ChangedOnlyAt index first.old first.new
-            × ChangedOnlyAt index second.old second.new }
+        ensures first { IsSameSeatSet self.now index first.old first.new }
+        ensures second { IsSameSeatSet self.now index second.old second.new }
         ensures extended { (x y v : T) × SeatSetHasSeen first.old index x × SeatSetHasSeen first.new index x
             × SeatSetHasSeen second.old index y × SeatSetHasSeen second.new index y
             × T.extends v x × T.extends v y }
@@ -140,15 +133,8 @@ impl<T: Grows> StripedLock<T> {
     pub fn split(&self, alloc: Global, first: &mut RootSeats<T>) -> Result<SeatSet<T>, SplitFault>
         requires { AreRootSeatsOf first.old self.now }
         ensures belongs { AreRootSeatsOf first.new self.now }
-        ensures split_seat { IfOk result (λ s. SeatSetBelongsTo s self.now
-            × (seat_set_number s ≡ next_seat_set_number first.old)) }
-        ensures next { IfOk result (λ s. next_seat_set_number first.new ≡ next_seat_set_number first.old + 1) }
-        ensures bound { IfOk result (λ s. next_seat_set_number first.old < u64.MAX) }
-        ensures seen { IfOk result (λ s. (i : ℕ) → i < 8 → (x : T) × RootSeatsHaveSeen first.old i x
-            × RootSeatsHaveSeen first.new i x × SeatSetHasSeen s i x × T.blank (seat_set_number s) x) }
-        ensures unchanged_on_err { OnErr result (first.new ≡ first.old) }
-        ensures numbers_exhausted { IfErr result (λ e. e ≡ OutOfNumbers → next_seat_set_number first.old ≡ u64.MAX) }
-        ensures memory { IfErr result (λ e. e ≡ OutOfMemory → next_seat_set_number first.old ≢ u64.MAX) }
+        ensures ok { IfOk result (λ s. IsNewSeatSet T.blank self.now first.old first.new s) }
+        ensures err { IfErr result (λ e. IsSplitRefusal first.old first.new e) }
     {
         let number = first.next;
         if number == u64::MAX {
@@ -202,9 +188,7 @@ impl<T: Grows> StripedLock<T> {
         requires callers { ForEach (λ c. SeatSetBelongsTo c self) callers.items }
         requires all { (k : ℕ) → 0 < k → k < next_seat_set_number first → HasNumber k callers.items }
         requires bound { HasCapacity (length callers.items) places }
-        ensures length { length result.items ≡ 8 }
-        ensures closed { (i : ℕ) (d : T) → i < 8
-            → IsCloseResult T.extends T.same T.blank first callers.items i (slice_index_or result.items i d) }
+        ensures { AreCloseResults T.extends T.same T.blank first callers.items result.items }
     {
         let CloseBuffers {
             seats_by_stripe: mut columns,

@@ -29,12 +29,12 @@ loop-value-preserved g c =
     let seat = c.in-Ok.seat in
     let steps = c.in-Some.ensures.steps.0 in
     let long : length (done ++ value ∷ []) ≡ m + 1 = length-append done (value ∷ []) in
-    let made = c.in-Ok.ensures in
-    let one : IsRootSeat n seat lock = (made.belongs, made.first.0, made.first.1) in
+    let made = c.in-Ok.ensures.ok in
+    let one : IsRootSeat n seat lock = (made.belongs, made.has_number, made.has_next) in
     let locks_are = c.push_reserved.ensures.items in
     let seats_are = c.push_reserved-in-Ok.ensures.items in
     let own : AtEachIndex (IsRootSeat n) (seats ++ seat ∷ []) (locks ++ lock ∷ []) 0 (m + 1) = at_each_of_push (IsRootSeat n) seats locks m seat lock inv.seats inv.locks inv.own one in
-    let seen : AtEachIndex HasSeen (seats ++ seat ∷ []) (done ++ value ∷ []) 0 (m + 1) = at_each_of_push HasSeen seats done m seat value inv.seats (λ _. m) inv.seen made.seen in
+    let seen : AtEachIndex HasSeen (seats ++ seat ∷ []) (done ++ value ∷ []) 0 (m + 1) = at_each_of_push HasSeen seats done m seat value inv.seats (λ _. m) inv.seen made.has_seen in
     record {
       values = append_assoc done (value ∷ []) (into_iter_items c.next.new.self) ∙ ap (λ (l : List g.row.T.Denot). done ++ l) (sym steps) ∙ inv.values;
       locks = ap length locks_are ∙ length-append locks (lock ∷ []) ∙ ap (λ (k : ℕ). k + 1) inv.locks ∙ sym long;

@@ -1,9 +1,10 @@
-use Rattle.std.proofs.Common.{◌≡◌, ◌≢◌, ℕ, ◌+◌, ◌<◌, ◌≤◌, ◌∷◌, ◌++◌, [], List, length, length-append, slice_index_or, slice_set, sym, ap, ◌∙◌, subst, arith}
+use Rattle.std.proofs.Common.{◌≡◌, ◌≢◌, ℕ, ◌+◌, ◌<◌, ◌∷◌, [], List, length, length-append, slice_index_or, slice_set, sym, ap, ◌∙◌, subst, arith}
 use Rattle.std.proofs.lemmas.List.{get_or_default, get_or-set_same, get_or-set_other}
 use Rattle.std.proofs.Math.ListN.{length-set}
 use Rattle.sdb_growlock.specs.declared.grow_lock.Seat.{Seat}
 use Rattle.sdb_growlock.specs.declared.grow_lock.GrowLock.{GrowLock}
-use Rattle.sdb_striped_lock.specs.AtIndex.{AtEachIndex, SeeSameBlankValue}
+use Rattle.sdb_growlock.specs.SeatModel.{SeeSameBlankValue}
+use Rattle.sdb_striped_lock.specs.AtIndex.{AtEachIndex}
 use Rattle.sdb_striped_lock.specs.SeatSetModel.{IsSeatNumbered, IsRootSeat}
 use Rattle.sdb_striped_lock.proofs.IndexLemmas.{each_item_of_set, each_item_of_push, get_or_is}
 use Rattle.sdb_striped_lock.proofs.striped_lock.StripedLock.split_stripes.Goals as goal
@@ -35,13 +36,13 @@ loop-index-preserved g c =
     let P : ℕ → Seat g.row.T.Denot → Type 0 = λ i s. (d : GrowLock g.row.T.Denot) → IsRootSeat (n + 1) s (slice_index_or locks i d) in
     let Q : ℕ → Seat g.row.T.Denot → Type 0 = λ i s. (d : GrowLock g.row.T.Denot) → IsSeatNumbered n s (slice_index_or locks i d) in
     let F : ℕ → Seat g.row.T.Denot → Type 0 = λ i z. (s : Seat g.row.T.Denot) → SeeSameBlankValue blank (slice_index_or olds i s) (slice_index_or (slice_set firsts m t) i s) z in
-    let own = c.in-Ok.ensures.belongs in
-    let given = c.in-Ok.ensures.split_seat in
-    let fresh : SeeSameBlankValue blank o t seat = c.in-Ok.ensures.seen in
+    let own = c.split.ensures.belongs in
+    let made = c.in-Ok.ensures.ok in
+    let fresh : SeeSameBlankValue blank o t seat = made.seen in
     let firsts_are = each_item_of_set P firsts 0 (m + 1) m t within (λ j s from below ne d. inv.before j s d from (omega (arith, below, ne)))
-    (λ d. subst (λ (x : GrowLock g.row.T.Denot). IsRootSeat (n + 1) t x) (sym (lock_there d)) (own.0, own.1 ∙ first.1, c.in-Ok.ensures.next ∙ ap (λ (k : ℕ). k + 1) first.2)) in
+    (λ d. subst (λ (x : GrowLock g.row.T.Denot). IsRootSeat (n + 1) t x) (sym (lock_there d)) (own, made.first_number_unchanged ∙ first.1, made.first_next_grows ∙ ap (λ (k : ℕ). k + 1) first.2)) in
     let seats_are = each_item_of_push Q seats m seat inv.long (λ j s from below d. inv.given j s d from below)
-    (λ d. subst (λ (x : GrowLock g.row.T.Denot). IsSeatNumbered n seat x) (sym (lock_there d)) (given.0, given.1 ∙ first.2, given.2)) in
+    (λ d. subst (λ (x : GrowLock g.row.T.Denot). IsSeatNumbered n seat x) (sym (lock_there d)) (made.belongs, made.has_number ∙ first.2, made.has_no_next)) in
     let fresh_are = each_item_of_push F seats m seat inv.long
     (λ j z from below s.
     let ne : j ≢ m = λ q. omega (arith, q, below) in

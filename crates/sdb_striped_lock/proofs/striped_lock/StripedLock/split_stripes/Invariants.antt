@@ -1,6 +1,7 @@
 use Rattle.std.proofs.Common.{◌≡◌, ℕ, ◌+◌, ◌<◌, ◌≤◌, length, slice_index_or, vec_capacity}
 use Rattle.sdb_growlock.specs.declared.grow_lock.Seat.{Seat}
-use Rattle.sdb_striped_lock.specs.AtIndex.{AtEachIndex, SeeSameBlankValue}
+use Rattle.sdb_growlock.specs.SeatModel.{SeeSameBlankValue}
+use Rattle.sdb_striped_lock.specs.AtIndex.{AtEachIndex}
 use Rattle.sdb_striped_lock.specs.SeatSetModel.{IsSeatNumbered, IsRootSeat}
 use Rattle.sdb_striped_lock.proofs.striped_lock.StripedLock.split_stripes.Given as goal
 
