@@ -1,13 +1,12 @@
 -- The seats of the first caller and of all others at one index.
-use Rattle.std.proofs.Common.{◌≡◌, ℕ, zero, suc, ◌+◌, ◌<◌, ◌≤◌, inl, inr, List, [], ◌∷◌, map, slice_index_or, refl, sym, ap, ◌∙◌, subst, arith}
-use Rattle.sdb_growlock.specs.LockRule.{ForEach, IsAmong, sum_of}
+use Rattle.std.proofs.Common.{◌≡◌, ℕ, zero, suc, ◌<◌, inl, inr, List, [], ◌∷◌, map, slice_index_or, refl, ◌∙◌, subst, arith}
+use Rattle.sdb_growlock.specs.LockRule.{ForEach, IsAmong}
 use Rattle.sdb_growlock.specs.SeatModel.{BelongsTo, HasSeen, HasNumber, seat_count}
 use Rattle.sdb_growlock.specs.SeatModel as one
 use Rattle.sdb_growlock.specs.declared.grow_lock.Seat.{Seat}
 use Rattle.sdb_growlock.specs.declared.grow_lock.GrowLock.{GrowLock}
 use Rattle.sdb_striped_lock.specs.CloseModel.{HasEverySeat, IsCloseResult, ExtendsAndKeeps, IsValueAfterClose}
-use Rattle.sdb_striped_lock.specs.AtIndex.{AtEachIndex, HasSeenAt}
-use Rattle.sdb_striped_lock.specs.SeatSetModel.{SeatSetBelongsTo, AreRootSeatsOf, IsSeatNumbered, IsRootSeat}
+use Rattle.sdb_striped_lock.specs.SeatSetModel.{SeatSetBelongsTo, IsSeatNumbered, IsRootSeat}
 use Rattle.sdb_striped_lock.specs.declared.striped_lock.StripedLock.{StripedLock}
 use Rattle.sdb_striped_lock.specs.declared.striped_lock.SeatSet.{SeatSet}
 use Rattle.sdb_striped_lock.specs.declared.striped_lock.RootSeats.{RootSeats}
