@@ -68,10 +68,16 @@ pub record TakeContinues (k : PlainKey) (id max : ℕ) (p : Pass) (r : Option (L
       r ≡ option_map (pending_entries (logs_of history.shard k) max) ((share_of (pass_number p) (machine_of observed.shard)).queues k id)
 
 -- one history extends what both passes have observed of the key's shard; neither observes anything new
-abbrev pub ComparedAtKey : PlainKey → Pass → Pass → Pass → Pass → Type 0
-ComparedAtKey k first first_after second second_after =
-    (x y h : Held) × PassHasSeen first k x × PassHasSeen first_after k x × PassHasSeen second k y × PassHasSeen second_after k y
-    × Extends (machine_of h.shard) (machine_of x.shard) × Extends (machine_of h.shard) (machine_of y.shard)
+pub record ComparedAtKey (k : PlainKey) (first first_after second second_after : Pass) : Type 0 where
+  pub first_observed : Held
+  pub second_observed : Held
+  pub history : Held
+  pub first_seen : PassHasSeen first k first_observed
+  pub first_seen_after : PassHasSeen first_after k first_observed
+  pub second_seen : PassHasSeen second k second_observed
+  pub second_seen_after : PassHasSeen second_after k second_observed
+  pub extends_first : Extends (machine_of history.shard) (machine_of first_observed.shard)
+  pub extends_second : Extends (machine_of history.shard) (machine_of second_observed.shard)
 
 -- a listing is the machine's at one history that extends the observed one; the pass then observes an extension of it
 -- with the same share

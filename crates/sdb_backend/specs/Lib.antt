@@ -1,5 +1,6 @@
 pub mod AuditModel
 pub mod CallAnswers
+pub mod CloseModel
 pub mod GatheredKeys
 pub mod HistoryOrder
 pub mod HistoryOrderLaws

@@ -1,8 +1,10 @@
 -- The passes of a backend's callers, and their host.
-use Rattle.std.specs.Prelude.{◌≡◌, ℕ, ◌<◌, List, map, Contains}
+use Rattle.std.specs.Prelude.{◌≡◌, ◌≢◌, ℕ, ◌+◌, ◌<◌, List, map, Contains}
 use Rattle.sdb_oplog.specs.Keys.{PlainKey, Logs, shard_of}
+use Rattle.sdb_oplog.specs.declared.codes.Code.{Code}
+use Rattle.sdb_oplog.specs.declared.codes.Code.TheVariants.{E10, E11}
 use Rattle.sdb_desk.specs.ShardView.{machine_of, logs_of}
-use Rattle.sdb_striped_lock.specs.SeatSetModel.{SeatSetBelongsTo, AreRootSeatsOf, SeatSetHasSeen, RootSeatsHaveSeen, ChangedOnlyAt}
+use Rattle.sdb_striped_lock.specs.SeatSetModel.{SeatSetBelongsTo, AreRootSeatsOf, SeatSetHasSeen, RootSeatsHaveSeen, ChangedOnlyAt, IsSameSeatSet}
 use Rattle.sdb_striped_lock.specs.SeatSetModel as locks
 use Rattle.sdb_striped_lock.specs.declared.striped_lock.StripedLock.{StripedLock}
 use Rattle.sdb_backend.specs.HistoryOrder.{share_of, empty_share}
@@ -71,3 +73,25 @@ HasSeenHostHistories p h = (i : ℕ) → i < 8 → (x : Held) × RootSeatsHaveSe
 -- each number that was issued is the number of one of the passes
 abbrev pub HasEveryPass : ℕ → List Pass → Type 0
 HasEveryPass next passes = (k : ℕ) → 0 < k → k < next → Contains (map pass_number passes) k
+
+module _ {R : Type 0} where
+  -- the pass still belongs to the backend, with the same number, and has observed nothing new of the other shards
+  abbrev pub IsSamePass : Backend R → ℕ → Pass → Pass → Type 0
+  IsSamePass b i old new = IsSameSeatSet b.locks i old.seats new.seats
+
+  -- the new pass has the host's next number, which then grows by one, and an empty share; it has observed what its
+  -- host has
+  pub record IsNewPass (b : Backend R) (old new : Host) (p : Pass) : Type 0 where
+    pub belongs : IsPassOfBackend p b
+    pub has_number : pass_number p ≡ next_pass_number old
+    pub below_max : next_pass_number old < 18446744073709551615
+    pub next_grows : next_pass_number new ≡ next_pass_number old + 1
+    pub has_empty_share : HasEmptyShare p
+    pub seen_before : HasSeenHostHistories p old
+    pub seen_after : HasSeenHostHistories p new
+
+-- a refused pass leaves the host unchanged; its reason is that the numbers are used up, or else the memory
+pub record IsEnterRefusal (old new : Host) (code : Code) : Type 0 where
+  pub host_unchanged : new ≡ old
+  pub full : code ≡ E11 → next_pass_number old ≡ 18446744073709551615
+  pub memory : code ≢ E11 → (code ≡ E10) × (next_pass_number old ≢ 18446744073709551615)

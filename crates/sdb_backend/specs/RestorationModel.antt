@@ -8,8 +8,9 @@ use Rattle.sdb_desk.specs.ShardView.{state_of, machine_of}
 use Rattle.sdb_desk.specs.StateChanges.{StateAfterDecision}
 use Rattle.sdb_backend.specs.AuditModel.{logs_of_shards}
 use Rattle.sdb_backend.specs.HistoryOrder.{share_of, empty_share}
-use Rattle.sdb_backend.specs.PassModel.{HostHasSeenShard}
+use Rattle.sdb_backend.specs.PassModel.{next_pass_number, IsHostOfBackend, HostHasSeenShard, HostHasSeenLogs}
 use Rattle.sdb_backend.specs.UnsavedEntries.{unsaved_of}
+use Rattle.sdb_backend.specs.declared.backend.Backend.{Backend}
 use Rattle.sdb_backend.specs.declared.pass.Host.{Host}
 use Rattle.sdb_backend.specs.declared.restoration.Restoration.{Restoration}
 use Rattle.sdb_backend.specs.declared.shard_value.Held.{Held}
@@ -50,3 +51,10 @@ HasSameShare n old new =
 -- the host has observed each restored shard
 abbrev pub HasSeenRestored : Host → Restoration → Type 0
 HasSeenRestored h r = (i : ℕ) (x : Held) → HasRestoredShard r i x → HostHasSeenShard h i x
+
+-- the host of the restored backend has this next number, and has observed each restored shard and log
+pub record IsRestoredBackend {R : Type 0} (r : Restoration) (next : ℕ) (b : Backend R) (h : Host) : Type 0 where
+  pub host : IsHostOfBackend h b
+  pub has_next : next_pass_number h ≡ next
+  pub seen : HasSeenRestored h r
+  pub logs : HostHasSeenLogs h (restored_logs r)

@@ -1,17 +1,15 @@
 //! The documents that many threads share.
-ghost use Rattle.std.specs.Prelude.{◌≡◌, ◌≢◌, ◌+◌, ◌<◌, ◌≤◌, length, vec_len, vec_capacity, IfErr, IfOk, OnErr, OnOk};
-ghost use Rattle.std.specs.List.Sorted.{IsPermutation};
+ghost use Rattle.std.specs.Prelude.{◌≡◌, ◌≤◌, length, vec_len, vec_capacity, IfErr, IfOk};
 ghost use Rattle.sdb_growlock.specs.LockRule.{ForEach};
 ghost use Rattle.sdb_striped_lock.specs.Capacity.{HasCapacity};
 ghost use Rattle.sdb_oplog.specs.Keys.{plain_key, shard_of};
-ghost use Rattle.sdb_oplog.specs.declared.codes.Code.TheVariants.{E10, E11};
 ghost use Rattle.sdb_desk.specs.ShardView.{machine_of};
 ghost use Rattle.sdb_backend.specs.AuditModel.{ExtendsEveryPass};
 ghost use Rattle.sdb_backend.specs.CallAnswers.{ComparedAtKey, RunsAtExtension};
+ghost use Rattle.sdb_backend.specs.CloseModel.{IsCloseRefusal};
 ghost use Rattle.sdb_backend.specs.HistoryOrder.{Extends, share_of};
-ghost use Rattle.sdb_backend.specs.PassModel.{pass_number, next_pass_number, IsPassOfBackend, IsHostOfBackend, HasEmptyShare, HasEmptyShares, HasSeenHostHistories, PassHasSeen, HasEveryPass, ChangesPassOnlyAt};
+ghost use Rattle.sdb_backend.specs.PassModel.{pass_number, next_pass_number, IsPassOfBackend, IsHostOfBackend, HasEmptyShares, PassHasSeen, HasEveryPass, IsSamePass, IsNewPass, IsEnterRefusal};
 ghost use Rattle.sdb_backend.specs.declared.shard_value.Held.{Held as HeldShard};
-ghost use Rattle.sdb_backend.specs.declared.backend.CloseError.TheVariants.{OutOfMemory, MissingPass};
 
 use crate::audit::Audit;
 use crate::counts::{Counts, StoredCounts};
@@ -108,15 +106,8 @@ impl<R: Drop> Backend<R> {
     pub fn enter(&self, host: &mut Host) -> Result<Pass, Code>
         requires { IsHostOfBackend host.old self.now }
         ensures host { IsHostOfBackend host.new self.now }
-        ensures pass { IfOk result (λ p. IsPassOfBackend p self.now × (pass_number p ≡ next_pass_number host.old)) }
-        ensures new { IfOk result (λ p. HasEmptyShare p) }
-        ensures seen { IfOk result
-            (λ p. HasSeenHostHistories p host.old × HasSeenHostHistories p host.new) }
-        ensures next { OnOk result (next_pass_number host.new ≡ next_pass_number host.old + 1) }
-        ensures bound { OnOk result (next_pass_number host.old < u64.MAX) }
-        ensures full { IfErr result (λ code. code ≡ E11 → next_pass_number host.old ≡ u64.MAX) }
-        ensures memory { IfErr result (λ code. code ≢ E11 → (code ≡ E10) × (next_pass_number host.old ≢ u64.MAX)) }
-        ensures unchanged_on_err { OnErr result (host.new ≡ host.old) }
+        ensures ok { IfOk result (λ pass. IsNewPass self.now host.old host.new pass) }
+        ensures err { IfErr result (λ code. IsEnterRefusal host.old host.new code) }
     {
         match self.locks.split(self.alloc, &mut host.seats) {
             Ok(seats) => Ok(Pass { seats }),
@@ -129,12 +120,8 @@ impl<R: Drop> Backend<R> {
     /// pass observes anything new. It doesn't wait.
     pub fn compare(&self, first: &mut Pass, second: &mut Pass, key: &Key)
         requires passes { IsPassOfBackend first.old self.now × IsPassOfBackend second.old self.now }
-        ensures first { IsPassOfBackend first.new self.now }
-        ensures second { IsPassOfBackend second.new self.now }
-        ensures numbers_unchanged { (pass_number first.new ≡ pass_number first.old)
-            × (pass_number second.new ≡ pass_number second.old) }
-        ensures others_unchanged { let i = shard_of (plain_key key.now) in
-            ChangesPassOnlyAt i first.old first.new × ChangesPassOnlyAt i second.old second.new }
+        ensures first { IsSamePass self.now (shard_of (plain_key key.now)) first.old first.new }
+        ensures second { IsSamePass self.now (shard_of (plain_key key.now)) second.old second.new }
         ensures compared { ComparedAtKey (plain_key key.now) first.old first.new second.old second.new }
     {
         self.locks
@@ -162,15 +149,9 @@ impl<R: Drop> Backend<R> {
     pub fn close(self, host: Host, mut passes: Vec<Pass>) -> Result<Audit, CloseRefused<R>>
         requires host { IsHostOfBackend host self }
         requires passes { ForEach (λ p. IsPassOfBackend p self) passes.items }
-        ensures all { OnOk result (HasEveryPass (next_pass_number host) passes.items) }
-        ensures ended { IfOk result (λ a. ExtendsEveryPass a passes.items) }
-        ensures missing { IfErr result (λ r. r.error ≡ MissingPass → HasEveryPass (next_pass_number host) passes.items
-            → ⊥) }
-        ensures memory { IfErr result (λ r. r.error ≡ OutOfMemory → HasEveryPass (next_pass_number host) passes.items) }
-        ensures backend { IfErr result (λ r. r.backend ≡ self) }
-        ensures host { IfErr result (λ r. r.host ≡ host) }
-        ensures passes { IfErr result (λ r. IsPermutation passes.items r.passes.items) }
-        ensures seated { IfErr result (λ r. ForEach (λ p. IsPassOfBackend p r.backend) r.passes.items) }
+        ensures ok { IfOk result (λ audit. HasEveryPass (next_pass_number host) passes.items
+            × ExtendsEveryPass audit passes.items) }
+        ensures err { IfErr result (λ r. IsCloseRefusal self host passes.items r) }
     {
         if !host.has_every_pass(&mut passes) {
             return Err(CloseRefused {

@@ -6,8 +6,7 @@ ghost use Rattle.sdb_desk.specs.Machine.{DecidesOrOutOfMemory};
 ghost use Rattle.sdb_desk.specs.ReplyView.{plain_reply};
 ghost use Rattle.sdb_backend.specs.AuditModel.{HasShard, audit_logs};
 ghost use Rattle.sdb_backend.specs.HistoryOrder.{IsExtension};
-ghost use Rattle.sdb_backend.specs.PassModel.{next_pass_number, IsHostOfBackend, HostHasSeenLogs};
-ghost use Rattle.sdb_backend.specs.RestorationModel.{HasRestoredShard, restored_logs, IsEmptyRestoration, RestoresSubmission, HasNoShare, HasSameShare, HasSeenRestored};
+ghost use Rattle.sdb_backend.specs.RestorationModel.{HasRestoredShard, restored_logs, IsEmptyRestoration, RestoresSubmission, HasNoShare, HasSameShare, IsRestoredBackend};
 ghost use Rattle.sdb_backend.specs.declared.shard_value.Held.{Held as HeldShard};
 
 use crate::audit::Audit;
@@ -93,10 +92,7 @@ impl Restoration {
         requires first { 0 < next }
         requires no_root_share { HasNoShare 0 self }
         requires no_share { (n : ℕ) → next ≤ n → HasNoShare n self }
-        ensures host { IfOk result (λ made. IsHostOfBackend made.1 made.0) }
-        ensures next { IfOk result (λ made. next_pass_number made.1 ≡ next) }
-        ensures seen { IfOk result (λ made. HasSeenRestored made.1 self) }
-        ensures logs { IfOk result (λ made. HostHasSeenLogs made.1 (restored_logs self)) }
+        ensures { IfOk result (λ made. IsRestoredBackend self next made.0 made.1) }
     {
         let Restoration {
             alloc,

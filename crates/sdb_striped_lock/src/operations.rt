@@ -1,5 +1,5 @@
 //! The operations of eight locks.
-ghost use Rattle.std.specs.Prelude.{◌≡◌, ◌≢◌, ℕ, ◌+◌, ◌<◌, ◌≤◌, [], List, Vec, IfOk, IfErr, OnErr, length, slice_index_or, vec_len, vec_capacity};
+ghost use Rattle.std.specs.Prelude.{◌≡◌, ◌≢◌, ℕ, ◌+◌, ◌<◌, ◌≤◌, [], List, Vec, IfOk, IfErr, length, slice_index_or, vec_len, vec_capacity};
 ghost use Rattle.std.specs.Global.{Global};
 ghost use Rattle.sdb_growlock.specs.LockRule.{ForEach};
 ghost use Rattle.sdb_growlock.specs.SeatModel.{BelongsTo, SeeSameBlankValue};

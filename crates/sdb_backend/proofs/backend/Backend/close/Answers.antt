@@ -7,6 +7,7 @@ use Rattle.sdb_striped_lock.specs.declared.striped_lock.SeatSet.{SeatSet}
 use Rattle.sdb_striped_lock.specs.declared.striped_lock.RootSeats.{RootSeats}
 use Rattle.sdb_backend.specs.PassModel.{next_pass_number, HasSeatsOf}
 use Rattle.sdb_backend.specs.declared.shard_value.Held.{Held}
+use Rattle.sdb_backend.specs.declared.backend.CloseError.TheVariants.{OutOfMemory, MissingPass}
 use Rattle.sdb_backend.proofs.CloseLemmas.{AreAllClosed, KeepsAtEach, ExtendsHeld, SameHeld, BlankHeld, each_permuted, for_each_of_all, all_of, numbers_there, length_seats, seen_by, nothing_else, seats_of, all_permuted, none_permuted}
 use Rattle.sdb_backend.proofs.backend.Backend.close.Goals as goal
 
@@ -33,8 +34,8 @@ close-shards-requires-clause-bound g c =
     let qs = c.has_every_pass.new.passes in
     subst (λ (n : ℕ). HasCapacity n c.in-Ok.places) (c.len.ensures ∙ qs.ok.0 ∙ sym (ap length c.seat_sets_of.ensures ∙ length_seats qs.items)) c.in-Ok.ensures.places
 
-pub returns-in-Ok-clause-ended : goal.returns-in-Ok-clause-ended
-returns-in-Ok-clause-ended g c =
+pub returns-in-Ok-clause-ok : goal.returns-in-Ok-clause-ok
+returns-in-Ok-clause-ok g c =
     let l = c.args.self.locks in
     let host = c.args.host in
     let ps = c.args.passes.items in
@@ -48,11 +49,37 @@ returns-in-Ok-clause-ended g c =
       λ i d lt.
           subst (λ (f : RootSeats Held). IsCloseResult ExtendsHeld SameHeld BlankHeld f (seats_of qs) i (slice_index_or shards i d)) c.into_seats.ensures
           (subst (λ (cs : List (SeatSet Held)). IsCloseResult ExtendsHeld SameHeld BlankHeld c.into_seats.result cs i (slice_index_or shards i d)) c.seat_sets_of.ensures
-          (c.close-shards.ensures.closed i d lt)),
-    ) in
+          (c.close-shards.ensures.each i d lt)),
+    ) in (
+      all,
+      record {
+        extends_seen = subst (λ (vs : List Held). ForEach (KeepsAtEach vs) ps) (sym there) (for_each_of_all (KeepsAtEach shards) ps qs perm (seen_by host qs shards closed));
+        others = λ n i v is none.
+            nothing_else host l qs shards c.requires.host (all_permuted (next_pass_number host) ps qs perm all) closed n i v
+            (ap (λ (vs : List Held). slice_get vs i) (sym there) ∙ is) (none_permuted n ps qs perm none);
+      },
+    )
+
+pub returns-then-not-has_every_pass-clause-err : goal.returns-then-not-has_every_pass-clause-err
+returns-then-not-has_every_pass-clause-err g c =
+    let perm = c.has_every_pass.ensures.equal in
     record {
-      extends_seen = subst (λ (vs : List Held). ForEach (KeepsAtEach vs) ps) (sym there) (for_each_of_all (KeepsAtEach shards) ps qs perm (seen_by host qs shards closed));
-      others = λ n i v is none.
-          nothing_else host l qs shards c.requires.host (all_permuted (next_pass_number host) ps qs perm all) closed n i v
-          (ap (λ (vs : List Held). slice_get vs i) (sym there) ∙ is) (none_permuted n ps qs perm none);
+      backend_unchanged = refl;
+      host_unchanged = refl;
+      passes_permuted = perm;
+      passes_belong = each_permuted (λ p. HasSeatsOf p c.args.self.locks) c.args.passes.items c.has_every_pass.new.passes.items perm c.requires.passes;
+      missing = λ _ all. c.if-not-has_every_pass.ensures.missing refl all;
+      memory = λ e. let no : MissingPass ≡ OutOfMemory = e in cc;
+    }
+
+pub returns-in-Err-clause-err : goal.returns-in-Err-clause-err
+returns-in-Err-clause-err g c =
+    let perm = c.has_every_pass.ensures.equal in
+    record {
+      backend_unchanged = refl;
+      host_unchanged = refl;
+      passes_permuted = perm;
+      passes_belong = each_permuted (λ p. HasSeatsOf p c.args.self.locks) c.args.passes.items c.has_every_pass.new.passes.items perm c.requires.passes;
+      missing = λ e all. let no : OutOfMemory ≡ MissingPass = e in cc;
+      memory = λ _. c.if-not-has_every_pass.ensures.all refl;
     }

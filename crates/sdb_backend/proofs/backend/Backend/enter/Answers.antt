@@ -9,25 +9,29 @@ use Rattle.sdb_backend.proofs.backend.Backend.enter.Goals as goal
 
 pub returns-in-Ok-clause-host : goal.returns-in-Ok-clause-host
 returns-in-Ok-clause-host g c = (
-  c.in-Ok.ensures.belongs,
+  c.split.ensures.belongs,
   λ i lt.
-      let s = c.in-Ok.ensures.seen i lt in
+      let s = c.in-Ok.ensures.ok.seen i lt in
       let y = c.requires.1 i lt in
       let e : s.0 ≡ y.0 = root_has_seen_unique c.args.host.now.seats i s.0 y.0 s.1 y.1 in
       (s.0, s.2, subst (λ (h : Held). share_of 0 (machine_of h.shard) ≡ empty_share) (sym e) y.2),
 )
 
-pub returns-in-Ok-clause-new : goal.returns-in-Ok-clause-new
-returns-in-Ok-clause-new g c = λ i lt. let s = c.in-Ok.ensures.seen i lt in (s.0, s.3, s.4)
+pub returns-in-Ok-clause-ok : goal.returns-in-Ok-clause-ok
+returns-in-Ok-clause-ok g c =
+    let made = c.in-Ok.ensures.ok in
+    record {
+      belongs = made.belongs;
+      has_number = made.has_number;
+      below_max = made.below_max;
+      next_grows = made.next_grows;
+      has_empty_share = λ i lt. let s = made.seen i lt in (s.0, s.3, s.4);
+      seen_before = λ i lt. let s = made.seen i lt in (s.0, s.1, s.3);
+      seen_after = λ i lt. let s = made.seen i lt in (s.0, s.2, s.3);
+    }
 
 pub returns-in-Err-OutOfNumbers-clause-host : goal.returns-in-Err-OutOfNumbers-clause-host
-returns-in-Err-OutOfNumbers-clause-host g c = subst (λ (f : RootSeats Held). HasRootSeatsOf (record { seats = f }) c.args.self.now.locks) (sym c.in-Err-OutOfNumbers.ensures.unchanged_on_err) c.requires
+returns-in-Err-OutOfNumbers-clause-host g c = subst (λ (f : RootSeats Held). HasRootSeatsOf (record { seats = f }) c.args.self.now.locks) (sym c.in-Err-OutOfNumbers.ensures.err.unchanged) c.requires
 
 pub returns-in-Err-OutOfMemory-clause-host : goal.returns-in-Err-OutOfMemory-clause-host
-returns-in-Err-OutOfMemory-clause-host g c = subst (λ (f : RootSeats Held). HasRootSeatsOf (record { seats = f }) c.args.self.now.locks) (sym c.in-Err-OutOfMemory.ensures.unchanged_on_err) c.requires
-
-pub returns-in-Ok-clause-seen : goal.returns-in-Ok-clause-seen
-returns-in-Ok-clause-seen g c = (
-  λ i lt. let s = c.in-Ok.ensures.seen i lt in (s.0, s.1, s.3),
-  λ i lt. let s = c.in-Ok.ensures.seen i lt in (s.0, s.2, s.3),
-)
+returns-in-Err-OutOfMemory-clause-host g c = subst (λ (f : RootSeats Held). HasRootSeatsOf (record { seats = f }) c.args.self.now.locks) (sym c.in-Err-OutOfMemory.ensures.err.unchanged) c.requires

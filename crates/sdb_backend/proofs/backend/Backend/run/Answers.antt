@@ -14,6 +14,6 @@ returns-clause-ran g c =
       share_unchanged = d.5;
       ran = d.6;
       seen_after = subst (λ i. SeatSetHasSeen c.with.new.seats i d.2) c.shard.ensures.shard d.9;
-      number_unchanged = c.with.ensures.number_unchanged;
-      others_unchanged = subst (λ i. ChangedOnlyAt i c.args.pass.now.seats c.with.new.seats) c.shard.ensures.shard c.with.ensures.others_unchanged;
+      number_unchanged = c.with.ensures.seats.number_unchanged;
+      others_unchanged = subst (λ i. ChangedOnlyAt i c.args.pass.now.seats c.with.new.seats) c.shard.ensures.shard c.with.ensures.seats.others_unchanged;
     }

@@ -5,7 +5,7 @@ use Rattle.sdb_event_loop.proofs.loop_pass.LoopPass.new.Goals as goal
 
 pub invariant_of-result : goal.invariant_of-result
 invariant_of-result g c =
-    let belongs = subst (λ s. IsPassOfBackend c.in-Ok.pass s.backend) c.deref.ensures c.in-Ok.ensures.pass.0 in
+    let belongs = subst (λ s. IsPassOfBackend c.in-Ok.pass s.backend) c.deref.ensures c.in-Ok.ensures.ok.belongs in
     record { belongs = c.args.context.now.names_backend.1 c.in-Ok.pass belongs }
 
 pub returns-in-Ok : goal.returns-in-Ok
