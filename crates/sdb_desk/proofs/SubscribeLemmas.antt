@@ -7,9 +7,8 @@ use Rattle.sdb_oplog.specs.declared.codes.Code.TheVariants.{E4, E10, E11}
 use Rattle.sdb_oplog.specs.Refusal.{IsRefusalOrOutOfMemory}
 use Rattle.sdb_oplog.specs.laws.LogLaws.{out_of_memory_or_refusal}
 use Rattle.sdb_subscribe.specs.Queue.{PlainQueue, PlainQueues, open_queue}
-use Rattle.sdb_subscribe.specs.Ring.{RingedQueues, queues_without_rings, without_rings}
+use Rattle.sdb_subscribe.specs.Ring.{RingedQueues, queues_without_rings, without_rings, open_ringed_queue}
 use Rattle.sdb_subscribe.proofs.QueueMapLemmas.{added_bare}
-use Rattle.sdb_desk.specs.StateChanges.{open_ringed_queue}
 use Rattle.sdb_value.specs.Value.{Value}
 use Rattle.sdb_desk.specs.Machine.{PlainFetchResult, queue_start, subscribe_opened, subscribe_step, subscribe_from_start, fetch_result, read_has_document, ReadOrOutOfMemory, SubscribesOrOutOfMemory}
 

@@ -1,5 +1,5 @@
 -- The effect of each call on the state of a shard.
-use Rattle.std.specs.Prelude.{◌≡◌, ℕ, ◌+◌, List, [], ◌∷◌, ◌++◌, length, true, unwrap_or, Option, Some, None, Result, Ok, Err}
+use Rattle.std.specs.Prelude.{◌≡◌, ℕ, List, [], ◌∷◌, ◌++◌, length, true, unwrap_or, Option, Some, None, Result, Ok, Err}
 use Rattle.sdb_value.specs.Value.{Value}
 use Rattle.sdb_oplog.specs.Decide.{PlainReply, decide, stored, missed_entries}
 use Rattle.sdb_oplog.specs.Keys.{PlainKey, with_log}
@@ -7,7 +7,7 @@ use Rattle.sdb_oplog.specs.Plain.{PlainEntry, PlainSubmission}
 use Rattle.sdb_oplog.specs.declared.codes.Code.{Code}
 use Rattle.sdb_snapcache.specs.CacheModel.{Snapshot}
 use Rattle.sdb_subscribe.specs.Queue.{take_result_by}
-use Rattle.sdb_subscribe.specs.Ring.{RingedQueue, RingedQueues, without_rings, ArePushed, ringed_queues_after_take_by}
+use Rattle.sdb_subscribe.specs.Ring.{RingedQueue, without_rings, ArePushed, open_ringed_queue, ringed_queues_after_take_by}
 use Rattle.sdb_desk.specs.DocumentModel.{DocumentAfterStore}
 use Rattle.sdb_desk.specs.Machine.{PlainAttempt, PlainOutcome, PlainSubscribeResult, is_nonempty, CommitsOrOutOfMemory, DecidesOrOutOfMemory}
 use Rattle.sdb_desk.specs.Reads.{CacheAfterRead, CacheAfterUse, CacheAfterOffer}
@@ -72,14 +72,6 @@ pub record StateAfterDecision (k : PlainKey) (s : PlainSubmission) (now : ℕ) (
   pub others : QueuesFollowLogs old new
 
 -- ---- queues
-
--- one more queue for an owner number from a version on, with an empty ring buffer
-abbrev pub open_ringed_queue : ℕ → ℕ → RingedQueues → RingedQueues
-open_ringed_queue by start q =
-    record {
-      next = q.next + 1;
-      queues = q.queues ++ (q.next, record { queue = record { start = start; taken = 0; by = by }; ring = [] }) ∷ [];
-    }
 
 -- a subscribe opens a queue at the start that it returns; if it fails nothing changes
 abbrev pub StateAfterSubscribe : PlainKey → ℕ → Result PlainSubscribeResult Code → ShardState → ShardState → Type 0

@@ -8,13 +8,13 @@ ghost use Rattle.sdb_oplog.specs.Refusal.{IsRefusalOrOutOfMemory};
 ghost use Rattle.sdb_oplog.specs.Snap.{document_of, snap};
 ghost use Rattle.sdb_oplog.specs.declared.codes.Code.TheVariants.{E10};
 ghost use Rattle.sdb_subscribe.specs.Queue.{open_queue, queue_at, take_result_by, is_open_by};
-ghost use Rattle.sdb_subscribe.specs.Ring.{without_rings, AreRingsOfLog, ArePushed, ringed_queues_after_take_by, remove_ringed_queue_by};
+ghost use Rattle.sdb_subscribe.specs.Ring.{without_rings, AreRingsOfLog, ArePushed, open_ringed_queue, ringed_queues_after_take_by, remove_ringed_queue_by};
 ghost use Rattle.sdb_desk.specs.DocumentModel.{DocumentAfterStore, empty_document};
 ghost use Rattle.sdb_oplog.specs.DecidedLog.{WillStore};
 ghost use Rattle.sdb_desk.specs.Machine.{is_nonempty};
 ghost use Rattle.sdb_desk.specs.Reads.{CacheAfterRead, CacheAfterOffer, IsReplayBase, IsCachedReplayBase, CacheAfterUse};
 ghost use Rattle.sdb_desk.specs.SlotModel.{empty_slot, slot_with_cache, slot_with_queues, slot_with_open_queues, document_or_empty};
-ghost use Rattle.sdb_desk.specs.StateChanges.{SlotAfterStore, OnlySlotCacheChanges, open_ringed_queue};
+ghost use Rattle.sdb_desk.specs.StateChanges.{SlotAfterStore, OnlySlotCacheChanges};
 ghost use Rattle.sdb_desk.specs.View.{plain_replay_base};
 
 use crate::document::Document;

@@ -3,12 +3,12 @@ ghost use Rattle.std.specs.Prelude.{◌≡◌, true, length, IfOk, IfErr, OnOk, 
 ghost use Rattle.sdb_oplog.specs.Keys.{plain_key};
 ghost use Rattle.sdb_oplog.specs.Refusal.{IsRefusalOrOutOfMemory};
 ghost use Rattle.sdb_subscribe.specs.Queue.{open_queue, queue_at, is_open_by};
-ghost use Rattle.sdb_subscribe.specs.Ring.{remove_ringed_queue_by};
+ghost use Rattle.sdb_subscribe.specs.Ring.{open_ringed_queue, remove_ringed_queue_by};
 ghost use Rattle.sdb_desk.specs.ShardView.{queues_at, log_at, open_queues_at, ring_of, state_of};
 ghost use Rattle.sdb_desk.specs.Machine.{queue_start, queue_start_or_full, SubscribesOrOutOfMemory};
 ghost use Rattle.sdb_desk.specs.View.{subscribe_result_view, taken_view};
 ghost use Rattle.sdb_desk.specs.ShardState.{with_ringed_queues, with_open_queues};
-ghost use Rattle.sdb_desk.specs.StateChanges.{StateAfterSubscribe, StateAfterTake, open_ringed_queue};
+ghost use Rattle.sdb_desk.specs.StateChanges.{StateAfterSubscribe, StateAfterTake};
 
 use crate::document_slot::DocumentSlot;
 use crate::shard::{FetchResult, Shard, SubscribeResult};

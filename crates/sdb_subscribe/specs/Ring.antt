@@ -24,6 +24,14 @@ queues_without_rings = map (λ q. (q.0, q.1.queue))
 abbrev pub without_rings : RingedQueues → PlainQueues
 without_rings q = record { next = q.next; queues = queues_without_rings q.queues }
 
+-- one more queue for an owner number from a version on, with an empty ring buffer
+abbrev pub open_ringed_queue : ℕ → ℕ → RingedQueues → RingedQueues
+open_ringed_queue by start q =
+    record {
+      next = q.next + 1;
+      queues = q.queues ++ (q.next, record { queue = record { start = start; taken = 0; by = by }; ring = [] }) ∷ [];
+    }
+
 -- the ring buffer of the queue of this number
 abbrev pub ring_at : ℕ → List (ℕ × RingedQueue) → Option (List PlainEntry)
 ring_at n qs = option_map (λ q. q.ring) (lookup (nat_eq n) qs)

@@ -5,8 +5,8 @@ ghost use Rattle.std.specs.Map.{keys_of, remove_entry};
 ghost use Rattle.sdb_oplog.specs.Plain.{PlainEntry};
 ghost use Rattle.sdb_oplog.specs.Refusal.{IsRefusalOrOutOfMemory};
 ghost use Rattle.sdb_oplog.specs.declared.codes.Code.TheVariants.{E11};
-ghost use Rattle.sdb_subscribe.specs.Queue.{open_queue, queue_at, take_result, queues_after_take, take_result_by, queues_after_take_by, remove_queue, remove_queue_by, is_open_by, queue_ids, AreBelowNext};
-ghost use Rattle.sdb_subscribe.specs.Ring.{without_rings, queues_without_rings, ring_at, AreRingsOfLog, IsPushed, ArePushed, ringed_queues_after_take, ringed_queues_after_take_by, remove_ringed_queue_by};
+ghost use Rattle.sdb_subscribe.specs.Queue.{open_queue, queue_at, take_result, queues_after_take, take_result_by, remove_queue, remove_queue_by, is_open_by, queue_ids, AreBelowNext};
+ghost use Rattle.sdb_subscribe.specs.Ring.{without_rings, queues_without_rings, ring_at, AreRingsOfLog, IsPushed, ArePushed, open_ringed_queue, ringed_queues_after_take, ringed_queues_after_take_by, remove_ringed_queue_by};
 
 use crate::queue::Queue;
 use sdb_oplog::{Code, Entry, Log};
@@ -108,15 +108,13 @@ impl Queues {
     /// [`Code::E11`] if all 18,446,744,073,709,551,615 queue numbers are used up, [`Code::E10`] if
     /// an allocation fails. The queues are then unchanged.
     pub fn open(&mut self, by: u64, from: u64) -> Result<SubId, Code>
-        ensures id { IfOk result (λ id. id ≡ (without_rings self.old).next) }
-        ensures ok { OnOk result (open_queue by from (without_rings self.old) ≡ Ok (without_rings self.new)) }
-        ensures open { IfOk result
-            (λ id. queue_at id (without_rings self.new).queues ≡ Some (record { start = from; taken = 0; by = by })) }
-        ensures full { (without_rings self.old).next ≡ 18446744073709551615 → result ≡ Err E11 }
-        ensures err { IfErr result (λ code. IsRefusalOrOutOfMemory (open_queue by from (without_rings self.old)) code) }
-        ensures unchanged_on_err { OnErr result (self.new ≡ self.old) }
-        ensures rings { OnOk result (self.new.queues ≡ self.old.queues ++
-            (self.old.next, record { queue = record { start = from; taken = 0; by = by }; ring = [] }) ∷ []) }
+        ensures ok { IfOk result (λ id. (id ≡ self.old.next)
+            × (self.new ≡ open_ringed_queue by from self.old)) }
+        ensures open { IfOk result (λ id. queue_at id (without_rings self.new).queues
+            ≡ Some (record { start = from; taken = 0; by = by })) }
+        ensures full { self.old.next ≡ 18446744073709551615 → result ≡ Err E11 }
+        ensures err { IfErr result (λ code. (self.new ≡ self.old)
+            × IsRefusalOrOutOfMemory (open_queue by from (without_rings self.old)) code) }
         ensures rings_of_log { (log : List PlainEntry) → AreRingsOfLog log self.old.queues
             → AreRingsOfLog log self.new.queues }
     {
@@ -169,15 +167,14 @@ impl Queues {
         max: u64,
     ) -> Result<Option<Vec<Entry>>, AllocError>
         requires { AreRingsOfLog log.now self.old.queues }
-        ensures entries { IfOk result
-            (λ v. option_map (λ es. es.items) v ≡ take_result_by log.now by id max (without_rings self.old).queues) }
-        ensures queues_after { OnOk result
-            ((without_rings self.new).queues ≡ queues_after_take_by log.now by id max (without_rings self.old).queues) }
-        ensures err { OnErr result (self.new.queues ≡ self.old.queues) }
+        ensures ok { IfOk result (λ v. (option_map (λ es. es.items) v
+            ≡ take_result_by log.now by id max (without_rings self.old).queues)
+            × (self.new ≡ record self.old {
+              queues = ringed_queues_after_take_by log.now by id max self.old.queues;
+            })) }
+        ensures err { OnErr result (self.new ≡ self.old) }
         ensures memory { OnErr result
             (0 < length (unwrap_or (take_result_by log.now by id max (without_rings self.old).queues) [])) }
-        ensures next_unchanged { self.new.next ≡ self.old.next }
-        ensures rings { OnOk result (self.new.queues ≡ ringed_queues_after_take_by log.now by id max self.old.queues) }
         ensures rings_of_log { AreRingsOfLog log.now self.new.queues }
     {
         if !self.owns(by, id) {

@@ -1,11 +1,11 @@
 use Rattle.std.proofs.Common.{◌≡◌, ap, ◌∙◌}
 use Rattle.sdb_oplog.specs.Keys.{plain_key, with_value_at_key}
 use Rattle.sdb_subscribe.specs.Queue.{queue_at}
+use Rattle.sdb_subscribe.specs.Ring.{open_ringed_queue}
 use Rattle.sdb_desk.specs.MapModel.{value_at_key}
 use Rattle.sdb_desk.specs.ShardState.{with_ringed_queues}
 use Rattle.sdb_desk.specs.ShardView.{slots_of, state_of}
 use Rattle.sdb_desk.specs.SlotModel.{empty_slot}
-use Rattle.sdb_desk.specs.StateChanges.{open_ringed_queue}
 use Rattle.sdb_desk.specs.laws.MapLaws.{value_at_lookup_some, value_at_lookup_none}
 use Rattle.sdb_desk.proofs.LookLemmas.{on_ok, on_err}
 use Rattle.sdb_desk.proofs.StateLemmas.{unchanged_of_write, queues_of_write, queues_written, plain_queues_at}

@@ -4,11 +4,10 @@ use Rattle.sdb_value.specs.View.{value_of}
 use Rattle.sdb_oplog.specs.Keys.{plain_key}
 use Rattle.sdb_oplog.specs.Refusal.{IsRefusalOrOutOfMemory}
 use Rattle.sdb_subscribe.specs.Queue.{open_queue}
-use Rattle.sdb_subscribe.specs.Ring.{without_rings}
+use Rattle.sdb_subscribe.specs.Ring.{without_rings, open_ringed_queue}
 use Rattle.sdb_desk.specs.Machine.{SubscribesOrOutOfMemory, fetch_result, read_has_document}
 use Rattle.sdb_desk.specs.ShardState.{with_ringed_queues}
 use Rattle.sdb_desk.specs.ShardView.{logs_of, queues_of, state_of}
-use Rattle.sdb_desk.specs.StateChanges.{open_ringed_queue}
 use Rattle.sdb_desk.specs.View.{subscribe_result_view}
 use Rattle.sdb_desk.specs.laws.MapLaws.{value_of_updated}
 use Rattle.sdb_desk.proofs.SubscribeLemmas.{read_out_of_memory, subscribe_done, subscribe_refused, subscribe_out_of_memory, open_of_ringed}

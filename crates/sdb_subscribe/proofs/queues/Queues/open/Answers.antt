@@ -1,9 +1,8 @@
-use Rattle.std.proofs.Common.{◌+◌, ◌++◌, ◌∷◌, [], Ok, Err, Some, sym, ap, ◌∙◌, subst}
-use Rattle.sdb_oplog.specs.declared.codes.Code.TheVariants.{E11}
-use Rattle.sdb_subscribe.specs.Queue.{open_queue, queue_at}
-use Rattle.sdb_subscribe.specs.Ring.{without_rings, queues_without_rings, AreRingsOfLog}
+use Rattle.std.proofs.Common.{◌+◌, ◌++◌, ◌∷◌, [], Some, sym, ap, ◌∙◌, subst}
+use Rattle.sdb_subscribe.specs.Queue.{queue_at}
+use Rattle.sdb_subscribe.specs.Ring.{queues_without_rings, open_ringed_queue, AreRingsOfLog}
 use Rattle.sdb_subscribe.specs.laws.QueueLaws.{queue_at_opened}
-use Rattle.sdb_subscribe.proofs.QueueMapLemmas.{insert_new_last, added_bare, assigned_added, assigned_bare, other_than}
+use Rattle.sdb_subscribe.proofs.QueueMapLemmas.{insert_new_last, added_bare, assigned_added, assigned_bare}
 use Rattle.sdb_subscribe.proofs.RingLemmas.{fit_added, fits_empty}
 use Rattle.sdb_subscribe.proofs.queues.Queues.open.Goals as goal
 
@@ -18,11 +17,11 @@ pub returns-clause-ok : goal.returns-clause-ok
 returns-clause-ok c =
     let es = c.self.inside.queues.entries in
     let n = c.self.inside.next in
-    let w = c.in_ok-queue.queue in
-    ap (λ q. open_queue c.args.by c.args.from (without_rings q)) (sym c.self.view_is)
-    ∙ other_than n 18446744073709551615 (Err E11) (Ok (record { next = n + 1; queues = queues_without_rings es ++ (n, record { start = c.args.from; taken = 0; by = c.args.by }) ∷ [] })) c.if-number.false
-    ∙ ap (λ v. Ok (record { next = n + 1; queues = queues_without_rings es ++ (n, v.queue) ∷ [] })) (sym c.in_ok-queue.ensures)
-    ∙ ap (λ l. Ok (record { next = n + 1; queues = l })) (sym (ap queues_without_rings (c.in-Ok.ensures.entries ∙ insert_new_last n w es c.self.invariant) ∙ added_bare n w es))
+    let w = c.in_ok-queue.queue in (
+      ap (λ q. q.next) c.self.view_is,
+      ap (λ l. record { next = n + 1; queues = l }) (c.in-Ok.ensures.entries ∙ insert_new_last n w es c.self.invariant ∙ ap (λ v. es ++ (n, v) ∷ []) c.in_ok-queue.ensures)
+          ∙ ap (open_ringed_queue c.args.by c.args.from) c.self.view_is,
+    )
 
 pub returns-clause-open : goal.returns-clause-open
 returns-clause-open c =
@@ -31,14 +30,6 @@ returns-clause-open c =
     let w = c.in_ok-queue.queue in
     ap (queue_at n) (ap queues_without_rings (c.in-Ok.ensures.entries ∙ insert_new_last n w es c.self.invariant) ∙ added_bare n w es)
     ∙ queue_at_opened n w.queue (queues_without_rings es) (assigned_bare n es c.self.invariant) ∙ ap (λ v. Some v.queue) c.in_ok-queue.ensures
-
-pub returns-clause-rings : goal.returns-clause-rings
-returns-clause-rings c =
-    let es = c.self.inside.queues.entries in
-    let n = c.self.inside.next in
-    let w = c.in_ok-queue.queue in
-    c.in-Ok.ensures.entries ∙ insert_new_last n w es c.self.invariant ∙ ap (λ v. es ++ (n, v) ∷ []) c.in_ok-queue.ensures
-    ∙ ap (λ q. q.queues ++ (q.next, record { queue = record { start = c.args.from; taken = 0; by = c.args.by }; ring = [] }) ∷ []) c.self.view_is
 
 pub returns-clause-rings_of_log : goal.returns-clause-rings_of_log
 returns-clause-rings_of_log c =
