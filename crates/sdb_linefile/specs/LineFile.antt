@@ -1,5 +1,5 @@
 -- The lines of an open file, and those that a crash leaves in it.
-use Rattle.std.specs.Prelude.{◌≡◌, ◌⊎◌, ℕ, List, length, true, IsTrue}
+use Rattle.std.specs.Prelude.{◌≡◌, ◌⊎◌, ℕ, List, [], length, true, IsTrue}
 use Rattle.sqlite_trees.specs.Tree.{Trees}
 use Rattle.sqlite_trees.specs.declared.store.Store.{Ghosts}
 use Rattle.sqlite_schema.specs.declared.schema.Schema.{Schema}
@@ -11,7 +11,7 @@ use Rattle.sqlite_store.specs.declared.catalog.Wanted.{Wanted}
 use Rattle.sqlite_store.specs.Listing.{IsOurs}
 use Rattle.sqlite.specs.Files.{HoldsDatabase}
 use Rattle.sqlite.specs.Held.{state}
-use Rattle.sqlite.specs.State.{State}
+use Rattle.sqlite.specs.State.{State, HasCleanDisk}
 use Rattle.sdb_linefile.specs.LineTable.{line_schema, empty_schema, ContainsLines, ShowsLines}
 use Rattle.sdb_linefile.specs.declared.line_file.LineFile.{LineFile}
 use Rattle.sdb_linefile.specs.declared.line_file.UnreadFile.{UnreadFile}
@@ -29,6 +29,12 @@ pub record StoresLines (lines : List (List ℕ)) (s : State) : Type 0 where
   pub is_open : IsTrue s.is_open
   pub now : ShowsLines lines s.now
   pub crash : LeavesLines lines s
+
+-- a file that adopts a connection stores its lines, or none if its schema was empty; the disk was clean before
+pub record AdoptsLines (schema : Schema) (old new : State) : Type 0 where
+  pub clean : HasCleanDisk old
+  pub lines : (lines : List (List ℕ)) → StoresLines lines old → StoresLines lines new
+  pub created : schema ≡ empty_schema → StoresLines [] new
 
 -- the files contain a database of these lines
 abbrev pub FilesContain : List (List ℕ) → Image → Type 0

@@ -8,7 +8,7 @@ ghost use Rattle.sqlite.specs.Files.{HoldsDatabase};
 ghost use Rattle.sqlite.specs.State.{HasCleanDisk};
 ghost use Rattle.sqlite.specs.Held.{state};
 ghost use Rattle.sdb_linefile.specs.LineTable.{line_schema, empty_schema};
-ghost use Rattle.sdb_linefile.specs.LineFile.{StoresLines, FilesContain, HasNoTable, IsLineFileOrEmpty, IsUnreadFileOf, unread_state};
+ghost use Rattle.sdb_linefile.specs.LineFile.{AdoptsLines, FilesContain, HasNoTable, IsLineFileOrEmpty, IsUnreadFileOf, unread_state};
 
 use crate::error::LineFileError;
 use crate::line_file::{LineFile, UnreadFile};
@@ -71,11 +71,8 @@ pub fn adopt<S: Alter>(
     mut conn: Connection<S>,
 ) -> Result<UnreadFile<S>, (LineFileError, Connection<S>)>
     requires { conn.in_transaction ≡ false }
-    ensures ok { IfOk result (λ file. HasCleanDisk (unread_state file) → (lines : List (List ℕ)) →
-        StoresLines lines (state S.Store conn) → IsUnreadFileOf lines file) }
-    ensures created { IfOk result (λ file. HasCleanDisk (unread_state file) → conn.schema ≡ empty_schema →
-        IsUnreadFileOf [] file) }
-    ensures clean { IfOk result (λ file. HasCleanDisk (unread_state file) → HasCleanDisk (state S.Store conn)) }
+    ensures ok { IfOk result (λ file. HasCleanDisk (unread_state file)
+        → AdoptsLines conn.schema (state S.Store conn) (unread_state file)) }
     ensures only { IfOk result (λ file. (conn.schema ≡ line_schema) ⊎ (conn.schema ≡ empty_schema)) }
     ensures foreign { IfErr result (λ e. e.0 ≡ LineFileError.ForeignFile → e.1 ≡ conn) }
 {

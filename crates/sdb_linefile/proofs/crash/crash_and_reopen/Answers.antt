@@ -5,9 +5,9 @@ use Rattle.sdb_linefile.proofs.crash.crash_and_reopen.Goals as goal
 
 pub returns-in-Ok : goal.returns-in-Ok
 returns-in-Ok g c clean these those leaves =
-    let opened = c.in-Ok.ensures.clean clean in
+    let adopted = c.in-Ok.ensures.ok clean in
     let left : LeavesEither these those (state g.S.Store c.into_connection.result) = rw c.into_connection.ensures leaves in
-    elim (c.in_ok-conn.ensures.left opened these those left) [
-      | inl stores ↦ inl (c.in-Ok.ensures.ok clean these stores)
-      | inr stores ↦ inr (c.in-Ok.ensures.ok clean those stores)
+    elim (c.in_ok-conn.ensures.left adopted.clean these those left) [
+      | inl stores ↦ inl (adopted.lines these stores)
+      | inr stores ↦ inr (adopted.lines those stores)
     ]
