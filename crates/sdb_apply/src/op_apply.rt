@@ -1,10 +1,10 @@
 //! Applying components and operations.
-ghost use Rattle.std.specs.Prelude.{◌≡◌, ◌+◌, ◌<◌, take, length, true, OnOk, OnErr, IfErr, IsErrOf, Some, None, ⊤};
+ghost use Rattle.std.specs.Prelude.{◌≡◌, true, OnOk, OnErr, IfErr, IsErrOf, Some, None, ⊤};
 ghost use Rattle.sdb_value.specs.Uniqueness.{is_unique};
 ghost use Rattle.sdb_value.specs.View.{value_of, plain_path};
 ghost use Rattle.sdb_component.specs.View.{plain_act};
 ghost use Rattle.sdb_apply.specs.Apply.{apply_one, apply, apply_act};
-ghost use Rattle.sdb_apply.specs.Outcome.{IsApplyOutcome, may_allocate, act_allocates, act_allocates_at};
+ghost use Rattle.sdb_apply.specs.Outcome.{IsApplyOutcome, IsApplyRefusal, may_allocate, act_allocates};
 ghost use Rattle.sdb_apply.specs.declared.op_apply.ApplyFault.TheVariants.{NotApplied, OutOfMemory};
 
 use crate::act::apply_act;
@@ -108,13 +108,8 @@ fn apply_component(alloc: Global, value: &mut Json, component: &Component) -> Re
 /// ```
 pub fn apply(alloc: Global, value: &mut Json, op: &Op) -> Result<(), Refused>
     ensures applied { OnOk result (apply op.now (value_of value.old) ≡ Some (value_of value.new)) }
-    ensures before { IfErr result (λ r. apply (take r.at op.now) (value_of value.old) ≡ Some (value_of value.new)) }
-    ensures in_range { IfErr result (λ r. r.at < length op.now) }
-    ensures refused { IfErr result (λ r. r.why ≡ NotApplied
-        → apply (take (r.at + 1) op.now) (value_of value.old) ≡ None) }
-    ensures none { IfErr result (λ r. r.why ≡ NotApplied → apply op.now (value_of value.old) ≡ None) }
-    ensures memory { IfErr result (λ r. r.why ≡ OutOfMemory
-        → may_allocate (act_allocates_at r.at op.now) (is_unique value.old) ≡ true) }
+    ensures err { IfErr result (IsApplyRefusal op.now (is_unique value.old)
+        (value_of value.old) (value_of value.new)) }
     ensures unique { is_unique value.old ≡ true → is_unique value.new ≡ true }
 {
     for (at, component) in op.components().iter().enumerate() {

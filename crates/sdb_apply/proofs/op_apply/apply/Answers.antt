@@ -1,4 +1,4 @@
-use Rattle.std.proofs.Common.{◌≡◌, ℕ, zero, suc, ◌+◌, ◌<◌, List, [], ◌∷◌, length, get_or, take, drop, Some, None, Err, ◌∙◌, ap, sym, subst, arith}
+use Rattle.std.proofs.Common.{◌≡◌, ℕ, zero, suc, ◌+◌, ◌<◌, List, [], ◌∷◌, length, get_or, take, drop, Some, None, Err, ◌∙◌, ap, sym, subst, arith, rules}
 use Rattle.std.proofs.lemmas.List.{take-append-drop}
 use Rattle.sdb_value.specs.Value.{Value}
 use Rattle.sdb_value.specs.Uniqueness.{is_unique}
@@ -7,6 +7,7 @@ use Rattle.sdb_component.specs.Plain.{PlainComponent}
 use Rattle.sdb_apply.specs.Apply.{apply_one, apply}
 use Rattle.sdb_apply.specs.Outcome.{IsApplyOutcome, may_allocate, act_allocates, act_allocates_at}
 use Rattle.sdb_apply.specs.declared.op_apply.ApplyFault.{ApplyFault}
+use Rattle.sdb_apply.specs.declared.op_apply.ApplyFault.TheVariants.{NotApplied}
 use Rattle.sdb_apply.proofs.OutcomeLemmas.{needs_mono}
 use Rattle.sdb_apply.proofs.FoldLemmas.{take_append, none_more}
 use Rattle.sdb_apply.proofs.op_apply.apply.Goals as goal
@@ -26,27 +27,30 @@ loop-at-preserved c = record {
   own = λ own. c.apply_component.ensures.unique (c.loop-at.invariant.own own);
 }
 
-pub returns-in-Err-clause-refused : goal.returns-in-Err-clause-refused
-returns-in-Err-clause-refused c =
-    let one = c.component-item.result in
-    let Says : ApplyFault → Type 0 = λ f. IsApplyOutcome (may_allocate (act_allocates one.act) (is_unique c.loop-at.value)) (Err f) (apply_one one (value_of c.loop-at.value)) (value_of c.loop-at.value) (value_of c.apply_component.new.value) in
-    λ no. next_is _ c.args.op.now c.loop-at.at one (value_of c.args.value.now) (value_of c.loop-at.value) c.components-component-items.ensures c.loop-at-test.true c.component-item.is c.loop-at.invariant.applied
-    ∙ (subst Says no c.in-Err.ensures.outcome).0
-
-pub returns-in-Err-clause-none : goal.returns-in-Err-clause-none
-returns-in-Err-clause-none c = λ no. prefix_none c.args.op.now (c.loop-at.at + 1) (value_of c.args.value.now) (returns-in-Err-clause-refused c no)
-
 -- the component at index i is the one that allocates
 at_is : (s : List PlainComponent) (i : ℕ) (c : PlainComponent) → i < length s → c ≡ get_or s i c → act_allocates_at i s ≡ act_allocates c.act
 at_is [] i c h is = absurd (omega arith)
 at_is (x ∷ s) zero c h is = ap (λ y. act_allocates y.act) (sym is)
 at_is (x ∷ s) (suc i) c h is = at_is s i c (omega arith) is
 
-pub returns-in-Err-clause-memory : goal.returns-in-Err-clause-memory
-returns-in-Err-clause-memory c =
+pub returns-in-Err-clause-err : goal.returns-in-Err-clause-err
+returns-in-Err-clause-err c =
     let one = c.component-item.result in
-    let Says : ApplyFault → Type 0 = λ f. IsApplyOutcome (may_allocate (act_allocates one.act) (is_unique c.loop-at.value)) (Err f) (apply_one one (value_of c.loop-at.value)) (value_of c.loop-at.value) (value_of c.apply_component.new.value) in
-    let takes : act_allocates_at c.loop-at.at c.args.op.now ≡ act_allocates one.act =
-    ap (act_allocates_at c.loop-at.at) (sym c.components-component-items.ensures) ∙ at_is _ c.loop-at.at one c.loop-at-test.true c.component-item.is in
-    λ wants. ap (λ t. may_allocate t (is_unique c.args.value.now)) takes
-    ∙ needs_mono (act_allocates one.act) (is_unique c.args.value.now) (is_unique c.loop-at.value) c.loop-at.invariant.own (subst Says wants c.in-Err.ensures.outcome).0
+    let op = c.args.op.now in
+    let at = c.loop-at.at in
+    let old = value_of c.args.value.now in
+    let mid = value_of c.loop-at.value in
+    let same = c.components-component-items.ensures in
+    let Says : ApplyFault → Type 0 = λ f. IsApplyOutcome (may_allocate (act_allocates one.act) (is_unique c.loop-at.value)) (Err f) (apply_one one mid) mid (value_of c.apply_component.new.value) in
+    let next = next_is _ op at one old mid same c.loop-at-test.true c.component-item.is c.loop-at.invariant.applied in
+    let none : c.in-Err.why ≡ NotApplied → apply (take (at + 1) op) old ≡ None = λ no. next ∙ (subst Says no c.in-Err.ensures.outcome).0 in
+    let takes : act_allocates_at at op ≡ act_allocates one.act =
+    ap (act_allocates_at at) (sym same) ∙ at_is _ at one c.loop-at-test.true c.component-item.is in
+    record {
+      index_in_range = subst (λ l. at < length l) same c.loop-at-test.true;
+      prefix_result = search rules;
+      component_refused = none;
+      operation_refused = λ no. prefix_none op (at + 1) old (none no);
+      memory = λ wants. ap (λ t. may_allocate t (is_unique c.args.value.now)) takes
+          ∙ needs_mono (act_allocates one.act) (is_unique c.args.value.now) (is_unique c.loop-at.value) c.loop-at.invariant.own (subst Says wants c.in-Err.ensures.outcome).0;
+    }
