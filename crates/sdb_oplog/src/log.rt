@@ -4,7 +4,7 @@ ghost use Rattle.sdb_value.specs.View.{value_of};
 ghost use Rattle.sdb_oplog.specs.Decide.{missed_entries};
 ghost use Rattle.sdb_oplog.specs.Snap.{snap, stored_at, are_identifiers_new};
 ghost use Rattle.sdb_oplog.specs.Moments.{last_moment, version_at, MomentsOrderedFrom};
-ghost use Rattle.sdb_oplog.specs.LogInvariant.{appended_entry};
+ghost use Rattle.sdb_oplog.specs.LogInvariant.{CanAppend, appended_entry};
 ghost use Rattle.sdb_oplog.specs.IndexModel.{indexed_version, HasReserved, SourceHasEntries};
 ghost use Rattle.sdb_oplog.specs.declared.codes.Code.TheVariants.{E10};
 
@@ -170,10 +170,7 @@ impl Log {
     ///
     /// [`AllocError`] if an allocation fails. The log is then unchanged.
     pub fn push(&mut self, entry: Entry) -> Result<(), AllocError>
-        requires first { stored_at entry.arrived.src entry.arrived.seq self.old ≡ None }
-        requires alive { is_some (snap (self.old ++ entry ∷ [])) ≡ true }
-        requires time { last_moment self.old ≤ entry.moment }
-        requires bound { length self.old < MAX }
+        requires { CanAppend self.old entry }
         ensures ok { OnOk result (self.new ≡ self.old ++ entry ∷ []) }
         ensures err { OnErr result (self.new ≡ self.old) }
     {
