@@ -1,5 +1,5 @@
 -- The documents and the highest number that a restorer has restored.
-use Rattle.std.specs.Prelude.{◌≡◌, ◌⊎◌, ℕ, ◌<◌, ◌≤◌, List, [], ◌∷◌, ◌++◌, Option, Some, None, IfSome, option_map}
+use Rattle.std.specs.Prelude.{◌≡◌, ◌⊎◌, ℕ, ◌+◌, ◌<◌, ◌≤◌, List, [], ◌∷◌, ◌++◌, Option, Some, None, IfSome, option_map}
 use Rattle.std.specs.Option.{option_map_or}
 use Rattle.sdb_oplog.specs.Plain.{PlainEntry}
 use Rattle.sdb_oplog.specs.Keys.{PlainKey, Logs}
@@ -8,7 +8,7 @@ use Rattle.sdb_dump.specs.DumpLine.{read_line}
 use Rattle.sdb_dump.specs.DumpText.{entry_line}
 use Rattle.sdb_dump.specs.declared.version.DumpVersion.TheVariants.{Two}
 use Rattle.sdb_backend.specs.HistoryOrder.{IsExtension}
-use Rattle.sdb_backend.specs.PassModel.{PassHasSeen, HasSeenHostHistories}
+use Rattle.sdb_backend.specs.PassModel.{next_pass_number, IsHostOfBackend, PassHasSeen, HostHasSeenLogs, HasSeenHostHistories}
 use Rattle.sdb_backend.specs.RestorationModel.{restored_logs, HasNoShare}
 use Rattle.sdb_backend.specs.declared.pass.Host.{Host}
 use Rattle.sdb_backend.specs.declared.pass.Pass.{Pass}
@@ -17,6 +17,7 @@ use Rattle.sdb_journal.specs.JournalText.{JournalItem, logs_of_items, accepted_i
 use Rattle.sdb_journal.specs.JournalText as journal
 use Rattle.sdb_journal.specs.StoreMachine.{IsIn}
 use Rattle.sdb_store.specs.declared.restorer.Restorer.{Restorer}
+use Rattle.sdb_store.specs.declared.restorer.RestoredBackend.{RestoredBackend}
 
 -- the log of each key
 abbrev pub restorer_logs : Restorer → Logs
@@ -74,6 +75,11 @@ pub record HasContentOfLine (r : Restorer) (line : List ℕ) : Type 0 where
   pub number : IfSome (number_of_line line) (λ n. n ≤ highest_number r)
   pub stored : IfSome (read_line Two line) (λ content. HasStoredLine r content.key line)
 
+-- the entry of a restored line is stored, and the item of the line is the next one of the journal
+pub record RestorerAfterLine (old new : Restorer) (line : List ℕ) : Type 0 where
+  pub content : HasContentOfLine new line
+  pub item : (xs : List JournalItem) → HasRestored old xs → HasRestoredLine new xs line
+
 -- the pass has observed a history that has the entry of this line
 pub record HasSeenLine (p : Pass) (k : PlainKey) (line : List ℕ) : Type 0 where
   pub history : Held
@@ -85,3 +91,11 @@ pub record HasSeenLine (p : Pass) (k : PlainKey) (line : List ℕ) : Type 0 wher
 -- each pass that has observed the host's histories has observed the entry of each stored line
 abbrev pub PassesHaveSeenLines : Restorer → Host → Type 0
 PassesHaveSeenLines r h = (p : Pass) (k : PlainKey) (line : List ℕ) → HasSeenHostHistories p h → HasStoredLine r k line → HasSeenLine p k line
+
+-- the restored backend has the logs of the restorer; the numbers of its passes continue above the highest one
+pub record IsBackendOfRestorer {R : Type 0} (r : Restorer) (restored : RestoredBackend R) : Type 0 where
+  pub host : IsHostOfBackend restored.host restored.backend
+  pub highest : restored.highest_number ≡ highest_number r
+  pub has_next : next_pass_number restored.host ≡ highest_number r + 1
+  pub logs : HostHasSeenLogs restored.host (restorer_logs r)
+  pub seen : PassesHaveSeenLines r restored.host

@@ -1,5 +1,5 @@
 //! Restoring the entries of a journal.
-ghost use Rattle.std.specs.Prelude.{◌≡◌, ◌≢◌, ◌⊎◌, ◌<◌, ◌≤◌, ◌+◌, List, [], true, false, None, length, max, slice_get, IfOk, IfErr, OnOk};
+ghost use Rattle.std.specs.Prelude.{◌≡◌, ◌≢◌, ◌⊎◌, ◌<◌, ◌≤◌, List, [], true, false, None, length, max, slice_get, IfOk, IfErr, OnOk};
 ghost use Rattle.std.specs.Option.{option_map_or};
 ghost use Rattle.sdb_oplog.specs.Decide.{decide};
 ghost use Rattle.sdb_oplog.specs.Keys.{PlainKey, plain_key, with_log};
@@ -9,10 +9,9 @@ ghost use Rattle.sdb_dump.specs.View.{plain_line_content};
 ghost use Rattle.sdb_dump.specs.declared.version.DumpVersion.TheVariants.{Two};
 ghost use Rattle.sdb_backend.specs.AuditModel.{audit_logs};
 ghost use Rattle.sdb_backend.specs.HistoryOrder.{IsExtension};
-ghost use Rattle.sdb_backend.specs.PassModel.{next_pass_number, IsHostOfBackend, HostHasSeenLogs};
 ghost use Rattle.sdb_journal.specs.JournalModel.{AppendsEntry, IsNumberRestored};
 ghost use Rattle.sdb_journal.specs.JournalText.{JournalItem, read_number};
-ghost use Rattle.sdb_store.specs.RestorerModel.{IsRestorer, RestorerGrows, HasRestored, HasRestoredLine, IsWrongLine, HasContentOfLine, PassesHaveSeenLines, restorer_logs, highest_number};
+ghost use Rattle.sdb_store.specs.RestorerModel.{IsRestorer, RestorerGrows, HasRestored, IsWrongLine, RestorerAfterLine, IsBackendOfRestorer, restorer_logs, highest_number};
 ghost use Rattle.sdb_store.specs.declared.restorer.RestoreFault.TheVariants.{WrongLine};
 
 use sdb_backend::{Audit, Backend, Host, Restoration};
@@ -98,9 +97,7 @@ impl Restorer {
         requires { IsRestorer self.old }
         ensures restorer { IsRestorer self.new }
         ensures grows { RestorerGrows self.old self.new }
-        ensures content { OnOk result (HasContentOfLine self.new line.now) }
-        ensures ok { OnOk result ((xs : List JournalItem) → HasRestored self.old xs
-            → HasRestoredLine self.new xs line.now) }
+        ensures ok { OnOk result (RestorerAfterLine self.old self.new line.now) }
         ensures err { IfErr result (λ fault. fault ≡ WrongLine → (xs : List JournalItem)
             → HasRestored self.old xs → IsWrongLine xs line.now) }
     {
@@ -119,11 +116,7 @@ impl Restorer {
     /// is left.
     pub fn finish<R: Drop>(self, rt: R) -> Result<RestoredBackend<R>, RestoreFault>
         requires { IsRestorer self }
-        ensures host { IfOk result (λ r. IsHostOfBackend r.host r.backend) }
-        ensures numbers { IfOk result (λ r. (r.highest_number ≡ highest_number self)
-            × (next_pass_number r.host ≡ highest_number self + 1)) }
-        ensures logs { IfOk result (λ r. HostHasSeenLogs r.host (restorer_logs self)) }
-        ensures seen { IfOk result (λ r. PassesHaveSeenLines self r.host) }
+        ensures ok { IfOk result (λ r. IsBackendOfRestorer self r) }
         ensures err { IfErr result (λ fault. fault ≡ WrongLine → highest_number self ≡ u64.MAX) }
     {
         let Restorer {
