@@ -397,6 +397,17 @@ get_none [] i h = refl
 get_none (x ∷ xs) zero h = absurd (omega (arith, h))
 get_none (x ∷ xs) (suc i) h = get_none xs i (omega (arith, h))
 
+pub remove_none : {X : Type 0} (xs : List X) (i : ℕ) → length xs ≤ i → remove xs i ≡ xs
+remove_none [] zero h = refl
+remove_none [] (suc i) h = refl
+remove_none (x ∷ xs) zero h = absurd (omega (arith, h))
+remove_none (x ∷ xs) (suc i) h = ap (λ l. x ∷ l) (remove_none xs i (omega (arith, h)))
+
+pub set_none : {X : Type 0} (xs : List X) (i : ℕ) (y : X) → length xs ≤ i → set xs i y ≡ xs
+set_none [] i y h = refl
+set_none (x ∷ xs) zero y h = absurd (omega (arith, h))
+set_none (x ∷ xs) (suc i) y h = ap (λ l. x ∷ l) (set_none xs i y (omega (arith, h)))
+
 get_some : {X : Type 0} (xs : List X) (i : ℕ) (d : X) → i < length xs → slice_get xs i ≡ Some (get_or xs i d)
 get_some [] i d h = absurd (omega (arith, h))
 get_some (x ∷ xs) zero d h = refl

@@ -312,9 +312,9 @@ impl<T: TryClone> ChunkedVec<T> {
     ///
     /// [`AllocError`] if an allocation fails. The list is then unchanged.
     pub fn insert(&mut self, alloc: Global, index: usize, item: T) -> Result<bool, AllocError>
-        ensures ok { IfOk result (λ done. vec_models T.model self.new ≡ (if done
-            then insert (vec_models T.model self.old) index (T.model item) else vec_models T.model self.old)) }
-        ensures in_range { IfOk result (λ done. done ≡ nat_le index (length (vec_models T.model self.old))) }
+        ensures ok { IfOk result (λ done. (done ≡ nat_le index (length (vec_models T.model self.old)))
+            × (vec_models T.model self.new ≡ (if done
+            then insert (vec_models T.model self.old) index (T.model item) else vec_models T.model self.old))) }
         ensures err { OnErr result (vec_models T.model self.new ≡ vec_models T.model self.old) }
         ensures unique { is_unique_vec self.old ≡ true → is_unique_vec self.new ≡ true }
         ensures unique_after { IfOk result (λ done. done ≡ true → is_unique_vec_at self.new index ≡ true) }
@@ -348,12 +348,11 @@ impl<T: TryClone> ChunkedVec<T> {
     ///
     /// [`AllocError`] if an allocation fails. The list is then unchanged.
     pub fn remove(&mut self, alloc: Global, index: usize) -> Result<Option<T>, AllocError>
-        ensures item { IfOk result (λ x. option_map T.model x ≡ slice_get (vec_models T.model self.old) index) }
-        ensures ok { OnOk result (vec_models T.model self.new ≡ remove (vec_models T.model self.old) index) }
-        ensures err { OnErr result (vec_models T.model self.new ≡ vec_models T.model self.old) }
+        ensures ok { IfOk result (λ x. (option_map T.model x ≡ slice_get (vec_models T.model self.old) index)
+            × (vec_models T.model self.new ≡ remove (vec_models T.model self.old) index)) }
+        ensures err { OnErr result ((vec_models T.model self.new ≡ vec_models T.model self.old)
+            × (is_unique_vec_at self.old index ≡ false)) }
         ensures unique { is_unique_vec self.old ≡ true → is_unique_vec self.new ≡ true }
-        ensures shared_on_err { OnErr result (is_unique_vec self.old ≡ false) }
-        ensures item_shared_on_err { OnErr result (is_unique_vec_at self.old index ≡ false) }
         ensures bound { max_chunk_length (vec_chunks self.new) ≤ max_chunk_length (vec_chunks self.old) }
     {
         match &mut self.repr {
@@ -383,12 +382,11 @@ impl<T: TryClone> ChunkedVec<T> {
     ///
     /// [`AllocError`] if an allocation fails. The list is then unchanged.
     pub fn replace(&mut self, alloc: Global, index: usize, item: T) -> Result<Option<T>, AllocError>
-        ensures item { IfOk result (λ x. option_map T.model x ≡ slice_get (vec_models T.model self.old) index) }
-        ensures ok { OnOk result (vec_models T.model self.new
-            ≡ slice_set (vec_models T.model self.old) index (T.model item)) }
-        ensures err { OnErr result (vec_models T.model self.new ≡ vec_models T.model self.old) }
+        ensures ok { IfOk result (λ x. (option_map T.model x ≡ slice_get (vec_models T.model self.old) index)
+            × (vec_models T.model self.new ≡ slice_set (vec_models T.model self.old) index (T.model item))) }
+        ensures err { OnErr result ((vec_models T.model self.new ≡ vec_models T.model self.old)
+            × (is_unique_vec_at self.old index ≡ false)) }
         ensures unique { is_unique_vec self.old ≡ true → is_unique_vec self.new ≡ true }
-        ensures shared_on_err { OnErr result (is_unique_vec_at self.old index ≡ false) }
         ensures unique_after { IfOk result (λ x. IfSome x (λ _. is_unique_vec_at self.new index ≡ true)) }
         ensures bound { max_chunk_length (vec_chunks self.new) ≤ max_chunk_length (vec_chunks self.old) }
     {

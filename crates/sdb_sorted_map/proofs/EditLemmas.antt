@@ -7,7 +7,8 @@ use Rattle.std.specs.Option.{IfSome, OnSome}
 use Rattle.std.specs.Map.{lookup, remove_entry}
 use Rattle.std.specs.BTreeMap.{insert_entry, is_at}
 use Rattle.sdb_chunks.specs.Chunk.{items_of}
-use Rattle.sdb_chunks.specs.ChunkedVec.{flatten_models, vec_models, is_unique_repr, is_unique_vec, is_grouped}
+use Rattle.sdb_chunks.specs.laws.ChunkLaws.{unique_vec_at_of_all}
+use Rattle.sdb_chunks.specs.ChunkedVec.{flatten_models, vec_models, is_unique_repr, is_unique_vec, is_unique_vec_at, is_grouped}
 use Rattle.sdb_chunks.specs.declared.chunk.Chunk.{Chunk}
 use Rattle.sdb_chunks.specs.declared.chunked_vec.Repr.{Repr}
 use Rattle.sdb_chunks.specs.declared.chunked_vec.Repr.TheVariants.{Flat, Chunks, Groups}
@@ -224,6 +225,14 @@ texts_borrowed f l n i o b w is at h =
     subst (λ p. OnSome p (vec_models (entry_model f) n ≡ slice_set (vec_models (entry_model f) l) i (k, f w))) is h in
     sym (keys_of_vec_models f n) ∙ ap entry_keys e ∙ names_set (vec_models (entry_model f) l) i (k, f w)
     ∙ set_same (entry_keys (vec_models (entry_model f) l)) i k (name_at (vec_models (entry_model f) l) i (entry_model f b.now) at) ∙ keys_of_vec_models f l
+
+-- a list with a shared part on the path to an item isn't unique
+shared_or : {X : Type 0} (b : Bool) (l : ChunkedVec X) (i : ℕ) → is_unique_vec l ≡ b → is_unique_vec_at l i ≡ false → b ≡ false
+shared_or true l i own h = absurd (not_both (is_unique_vec_at l i) (unique_vec_at_of_all l i own) h)
+shared_or false l i own h = refl
+
+pub shared_at : {X : Type 0} (l : ChunkedVec X) (i : ℕ) → is_unique_vec_at l i ≡ false → is_unique_vec l ≡ false
+shared_at l i h = shared_or (is_unique_vec l) l i refl h
 
 -- a unique list has no groups
 flat_repr : {X : Type 0} (w : Repr X) → is_unique_repr w ≡ true → is_grouped w ≡ false

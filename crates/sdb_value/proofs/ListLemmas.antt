@@ -404,6 +404,14 @@ unique_repr (Groups gs) own = absurd (true≢false (sym own))
 pub unique_in_chunks : (l : ChunkedVec Json) → list_unique l ≡ true → is_grouped l.repr ≡ false
 unique_in_chunks l own = unique_repr l.repr (both_first (is_unique_vec l) (items_unique (vec_items l)) own)
 
+vec_shared_or : (b : Bool) (l : ChunkedVec Json) (i : ℕ) → is_unique_vec l ≡ b → is_unique_vec_at l i ≡ false → b ≡ false
+vec_shared_or true l i own h = absurd (true≢false (sym (unique_vec_at_of_all l i own) ∙ h))
+vec_shared_or false l i own h = refl
+
+-- a list with a shared part on the path to an item isn't unique
+pub shared_at : (l : ChunkedVec Json) (i : ℕ) → is_unique_vec_at l i ≡ false → is_unique_vec l ≡ false
+shared_at l i h = vec_shared_or (is_unique_vec l) l i refl h
+
 shared_or : (b : Bool) (l : ChunkedVec Json) (i : ℕ) → list_unique l ≡ b → is_unique_vec_at l i ≡ false → b ≡ false
 shared_or true l i own h = absurd (true≢false (sym (unique_place l i own) ∙ h))
 shared_or false l i own h = refl

@@ -1,5 +1,5 @@
 -- Laws of chunked lists.
-use Rattle.std.specs.Prelude.{◌≡◌, ℕ, zero, suc, ◌-◌, List, [], ◌∷◌, ◌++◌, map, take, drop, length, Bool, true, false, cond, nat_lt, if◌then◌else◌, Some, slice_get, refl}
+use Rattle.std.specs.Prelude.{◌≡◌, ℕ, zero, suc, ◌-◌, List, [], ◌∷◌, ◌++◌, map, take, drop, length, Bool, true, false, cond, nat_lt, if◌then◌else◌, Some, slice_get, Result, Ok, Err, IfOk, OnErr, refl}
 use Rattle.std.proofs.Common.{ap, sym, ◌∙◌, append_assoc}
 use Rattle.std.specs.List.{flat_map}
 use Rattle.sdb_chunks.specs.Chunk.{items_of, is_chunk_unique}
@@ -115,3 +115,21 @@ flat_map_append_one (ys ∷ xss) xs = ap (λ l. ys ++ l) (flat_map_append_one xs
 pub flatten_models_append_one : {X S : Type 0} (f : X → S) (xss : List (List X)) (xs : List X)
     → map f (flat_map (λ xs. xs) (xss ++ xs ∷ [])) ≡ map f (flat_map (λ xs. xs) xss) ++ map f xs
 flatten_models_append_one f xss xs = ap (map f) (flat_map_append_one xss xs) ∙ map_append f (flat_map (λ xs. xs) xss) xs
+
+-- ---- the parts of what a call states of its success, and of its error
+
+pub first_if_ok : {A E : Type 0} (P Q : A → Type 0) (r : Result A E) → IfOk r (λ x. P x × Q x) → IfOk r P
+first_if_ok P Q (Ok x) h = h.0
+first_if_ok P Q (Err e) h = tt
+
+pub second_if_ok : {A E : Type 0} (P Q : A → Type 0) (r : Result A E) → IfOk r (λ x. P x × Q x) → IfOk r Q
+second_if_ok P Q (Ok x) h = h.1
+second_if_ok P Q (Err e) h = tt
+
+pub first_on_err : {A E : Type 0} (P Q : Type 0) (r : Result A E) → OnErr r (P × Q) → OnErr r P
+first_on_err P Q (Ok x) h = tt
+first_on_err P Q (Err e) h = h.0
+
+pub second_on_err : {A E : Type 0} (P Q : Type 0) (r : Result A E) → OnErr r (P × Q) → OnErr r Q
+second_on_err P Q (Ok x) h = tt
+second_on_err P Q (Err e) h = h.1
