@@ -12,7 +12,7 @@ from support.server import UNPROVED
 
 EDITORS, DOCUMENTS = 8, 2
 ATTACKS = 120  # seconds in which attacks begin
-HELD = 170  # megabytes that a client can hold; README.md has them
+HELD = 16  # megabytes that each of 64 clients can hold; README.md has them
 STORED = 3_000  # bytes of memory of a small stored edit
 
 # How many threads repeat each attack. Those that wait for the longest silence are done once, at the beginning.

@@ -15,7 +15,7 @@ MESSAGES = attacks.DENSE + attacks.CREATES
 
 
 def test_readme_has_the_bound():
-    row = next(line for line in (ROOT / "README.md").read_text().splitlines() if "Memory that a client can hold" in line)
+    row = next(line for line in (ROOT / "README.md").read_text().splitlines() if "Memory that each of 64 clients can hold" in line)
     assert f" {HELD} MB" in row
 
 
