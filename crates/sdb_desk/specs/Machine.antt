@@ -1,5 +1,5 @@
 -- The machine that executes each submission atomically: looks, commits, reads and queues.
-use Rattle.std.specs.Prelude.{◌≡◌, ◌≢◌, ℕ, List, [], ◌∷◌, Bool, true, false, ◌||◌, length, take, drop, if◌then◌else◌, nat_eq, nat_lt, Option, Some, None, unwrap_or, Result, Ok, Err, ◌⊎◌}
+use Rattle.std.specs.Prelude.{◌≡◌, ◌≢◌, ℕ, List, [], ◌∷◌, ◌++◌, Bool, true, false, ◌||◌, length, take, drop, if◌then◌else◌, nat_eq, nat_lt, Option, Some, None, unwrap_or, Result, Ok, Err, ◌⊎◌}
 use Rattle.std.specs.Option.{is_some, option_map_or}
 use Rattle.std.specs.Result.{is_ok, is_err, result_ok}
 use Rattle.sdb_value.specs.Value.{Value}
@@ -46,6 +46,14 @@ look_at log s =
       missed = missed_entries log s;
       snapshot = document_of log;
     }
+
+-- a look without its first missed entries
+abbrev pub look_after : ℕ → PlainLook → PlainLook
+look_after known l = record { version = l.version; repeat = l.repeat; missed = drop known l.missed; snapshot = l.snapshot }
+
+-- a look with these entries before its missed entries
+abbrev pub look_before : List PlainEntry → PlainLook → PlainLook
+look_before first l = record { version = l.version; repeat = l.repeat; missed = first ++ l.missed; snapshot = l.snapshot }
 
 -- a look allocates for missed entries and for a document
 abbrev pub look_allocates : List PlainEntry → PlainSubmission → Bool

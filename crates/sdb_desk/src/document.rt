@@ -1,18 +1,18 @@
 //! One document: its log, its current value and its snapshots.
-ghost use Rattle.std.specs.Prelude.{◌≡◌, ◌≢◌, ◌<◌, ◌≤◌, [], true, length, take, OnOk, OnErr, IfOk, IfErr, IfSome, is_some, Some, option_map};
+ghost use Rattle.std.specs.Prelude.{◌≡◌, ◌≢◌, ◌<◌, ◌≤◌, [], true, length, take, drop, OnOk, OnErr, IfOk, IfErr, IfSome, is_some, Some, option_map};
 ghost use Rattle.sdb_value.specs.Uniqueness.{is_frozen};
 ghost use Rattle.sdb_value.specs.View.{value_of};
 ghost use Rattle.sdb_oplog.specs.Decide.{IsMade};
 ghost use Rattle.sdb_oplog.specs.DecidedLog.{WillStore};
 ghost use Rattle.sdb_oplog.specs.Snap.{document_of, snap};
 ghost use Rattle.sdb_oplog.specs.declared.codes.Code.TheVariants.{E10};
-ghost use Rattle.sdb_desk.specs.Machine.{operations_between, look_at, look_allocates};
+ghost use Rattle.sdb_desk.specs.Machine.{operations_between, look_at, look_after, look_allocates};
 ghost use Rattle.sdb_desk.specs.View.{plain_replay_base, plain_look};
 ghost use Rattle.sdb_snapcache.specs.CacheModel.{nearest, promote_nearest};
 ghost use Rattle.sdb_snapcache.specs.View.{plain_snapshot};
 ghost use Rattle.sdb_desk.specs.DocumentModel.{DocumentAfterStore, empty_document, IsReplayStart};
 ghost use Rattle.sdb_snapcache.specs.SnapInvariant.{AreSnapsOf};
-ghost use Rattle.sdb_desk.specs.Reads.{CacheAfterRead, CacheAfterOffer, IsReplayBase, IsCachedReplayBase, CacheAfterUse};
+ghost use Rattle.sdb_desk.specs.Reads.{CacheAfterRead, CacheAfterOffer, IsReplayBase, IsCachedReplayBase, IsEarlierReplayBase, CacheAfterUse};
 
 use crate::replay_base::ReplayBase;
 use crate::work::Look;
@@ -195,6 +195,34 @@ impl Document {
         })
     }
 
+    // Returns the replay base of an earlier version: the nearest cached snapshot up to this version,
+    // and `max` entries after it. Returns `None` if there aren't more than `max` between them.
+    pub(crate) fn earlier_replay_base(
+        &mut self,
+        alloc: Global,
+        version: u64,
+        max: u64,
+    ) -> Result<Option<ReplayBase>, AllocError>
+        ensures earlier { IfOk result (λ o. IfSome o
+            (λ l. IsEarlierReplayBase self.old.log self.old.cache version max (plain_replay_base l))) }
+        ensures log { self.new.log ≡ self.old.log }
+        ensures cache { CacheAfterUse self.old.log version self.old.cache self.new.cache }
+    {
+        if self.log().len() <= version {
+            return Ok(None);
+        }
+        let (start, snapshot) = self.nearest(alloc, version)?;
+        if version - start <= max {
+            return Ok(None);
+        }
+        let entries = clone_entries(alloc, &self.log().entries_from(start)[..max as usize])?;
+        Ok(Some(ReplayBase {
+            version: start,
+            snapshot,
+            entries,
+        }))
+    }
+
     // Returns the nearest cached snapshot up to this version, or the absent document at version 0.
     fn nearest(&mut self, alloc: Global, version: u64) -> Result<(u64, Option<Json>), AllocError>
         requires { version ≤ length self.old.log }
@@ -261,22 +289,32 @@ fn replay_start(found: Option<(u64, Json)>) -> (u64, Option<Json>)
     }
 }
 
-// Returns a look at the log and its document, for a submission.
-pub(crate) fn look_at(
+// Returns a look at the log and its document, for a submission, without its first `known` missed
+// entries.
+pub(crate) fn look_after(
     alloc: Global,
     decided: &DecidedLog,
     submission: &Submission,
+    known: usize,
 ) -> Result<Look, AllocError>
-    ensures look { IfOk result (λ l. plain_look l ≡ look_at decided.now submission.now) }
+    ensures look { IfOk result
+        (λ l. plain_look l ≡ look_after known (look_at decided.now submission.now)) }
     ensures memory { OnErr result (look_allocates decided.now submission.now ≡ true) }
 {
     let log = decided.log();
     Ok(Look {
         version: log.len(),
         repeat: log.stored_at(submission.src(), submission.seq()),
-        missed: clone_entries(alloc, log.missed_entries(submission))?,
+        missed: clone_entries(alloc, entries_after(log.missed_entries(submission), known))?,
         snapshot: clone_document(alloc, decided.document())?,
     })
+}
+
+// Returns the entries after the first ones; none if there are fewer.
+pub(crate) fn entries_after(entries: &[Entry], first: usize) -> &[Entry]
+    ensures { result.now ≡ drop first entries.now }
+{
+    &entries[first.min(entries.len())..]
 }
 
 // Returns the entries from a version on, before another one; fewer if the log ends before.

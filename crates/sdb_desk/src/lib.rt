@@ -14,4 +14,4 @@ mod work;
 pub use document::Reply;
 pub use replay_base::ReplayBase;
 pub use shard::{CommitDecision, FetchResult, Outcome, Shard, SubscribeResult};
-pub use work::{Attempt, Look, Work};
+pub use work::{Attempt, Look, LookPart, Work};

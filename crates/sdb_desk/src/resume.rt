@@ -3,11 +3,12 @@ ghost use Rattle.std.specs.Prelude.{◌≡◌, ◌≤◌, ◌++◌, List, true, 
 ghost use Rattle.sdb_oplog.specs.Plain.{PlainEntry};
 ghost use Rattle.sdb_oplog.specs.Rebase.{rebase, rebase_allocates};
 ghost use Rattle.sdb_oplog.specs.Refusal.{result_and_then};
-ghost use Rattle.sdb_desk.specs.Machine.{work_allocates};
+ghost use Rattle.sdb_desk.specs.Machine.{work_allocates, look_before};
 ghost use Rattle.sdb_desk.specs.View.{rebased_content_of, plain_attempt, plain_look};
 
+use crate::document::entries_after;
 use crate::work::{Attempt, Look, RebasedContent, Work};
-use sdb_oplog::{Code, Content, Entry, entries_equal, rebase};
+use sdb_oplog::{Code, Content, Entry, Submission, entries_equal, rebase};
 use std::alloc::Global;
 
 impl Work {
@@ -45,6 +46,46 @@ impl Work {
             None => Err(attempt),
         }
     }
+
+    /// Computes the work of the submission for a newer look, whose missed entries come after those
+    /// of this one. It transforms the content only against them, and applies the result to the
+    /// newer snapshot.
+    ///
+    /// # Errors
+    ///
+    /// The submission, if an allocation fails. The old work is then lost.
+    pub(crate) fn extend(self, alloc: Global, newer: Look) -> Result<Work, Submission>
+        ensures ok { IfOk result (λ w. w ≡ record {
+          submission = self.submission;
+          look = look_before self.look.missed (plain_look newer);
+        }) }
+        ensures err { IfErr result (λ s. s ≡ self.submission) }
+    {
+        let (Attempt { submission, look }, worked) = self.into_parts();
+        let Look { mut missed, .. } = look;
+        let Look {
+            version,
+            repeat,
+            missed: mut fresh,
+            snapshot,
+        } = newer;
+        let Some(worked) = rebase_rest(alloc, submission.content(), worked, fresh.as_slice()) else {
+            return Err(submission);
+        };
+        if missed.append(&mut fresh).is_err() {
+            return Err(submission);
+        }
+        let look = Look {
+            version,
+            repeat,
+            missed,
+            snapshot,
+        };
+        match Work::from_content(alloc, Attempt { submission, look }, worked) {
+            Ok(work) => Ok(work),
+            Err(attempt) => Err(attempt.submission),
+        }
+    }
 }
 
 // Returns whether `first` is a prefix of `all`.
@@ -54,14 +95,6 @@ fn is_prefix(first: &[Entry], all: &[Entry]) -> bool
     ensures on_false { IsFalse result → first.now ≡ take (length first.now) all.now → ⊥ }
 {
     first.len() <= all.len() && entries_equal(first, &all[..first.len()])
-}
-
-// Returns the entries after the first ones.
-fn entries_after(entries: &[Entry], first: usize) -> &[Entry]
-    requires { first ≤ length entries.now }
-    ensures { result.now ≡ drop first entries.now }
-{
-    &entries[first..]
 }
 
 // Transforms the rebased content against further entries. Returns `None` if an allocation fails.

@@ -9,16 +9,16 @@ ghost use Rattle.sdb_oplog.specs.declared.decided_log.Rejection.TheVariants.{Ref
 ghost use Rattle.sdb_value.specs.View.{value_of};
 ghost use Rattle.sdb_desk.specs.ShardView.{slots_of, log_at, state_of};
 ghost use Rattle.sdb_desk.specs.SlotModel.{empty_slot};
-ghost use Rattle.sdb_desk.specs.Looks.{IsLook};
-ghost use Rattle.sdb_desk.specs.Machine.{IsRefusedByWork, look_at, look_allocates, WorkAfterCommit};
+ghost use Rattle.sdb_desk.specs.Looks.{IsLook, IsLookPart};
+ghost use Rattle.sdb_desk.specs.Machine.{IsRefusedByWork, look_at, look_after, look_allocates, WorkAfterCommit};
 ghost use Rattle.sdb_desk.specs.View.{plain_look, plain_outcome, outcome_of_decision};
 ghost use Rattle.sdb_desk.specs.ReplyView.{plain_reply};
 ghost use Rattle.sdb_desk.specs.StateChanges.{StateAfterStore, StateAfterCommit, StateAfterDecision};
 
-use crate::document::{Reply, look_at};
+use crate::document::{Reply, entries_after, look_after};
 use crate::document_slot::DocumentSlot;
 use crate::shard::{CommitDecision, Outcome, Shard};
-use crate::work::{Look, Work};
+use crate::work::{Look, LookPart, Work};
 use sdb_oplog::{
     Code, Content, DecidedLog, Entry, Key, Moment, RebaseResult, Rejection, Submission,
     clone_document, clone_entries,
@@ -39,9 +39,58 @@ impl Shard {
         ensures memory { OnErr result
             (look_allocates (log_at self.now key.now) submission.now ≡ true) }
     {
+        self.look_after(key, submission, 0)
+    }
+
+    /// Looks as [`look`](Shard::look) does, for a caller that has the first `known` missed entries.
+    /// Returns at most `max` of the others, without the look, if there are more.
+    ///
+    /// # Errors
+    ///
+    /// [`AllocError`] if an allocation fails, as for [`look`](Shard::look).
+    ///
+    /// ```
+    /// // A submission that missed three entries.
+    /// let first = shard.look_part(&key, &submission, 0, 2)?;
+    /// assert!(rt; matches!(first, LookPart::Entries(entries) if entries.len() == 2));
+    /// let last = shard.look_part(&key, &submission, 2, 2)?;
+    /// assert!(rt; matches!(last, LookPart::Last(look) if look.missed.len() == 1));
+    /// ```
+    pub fn look_part(
+        &self,
+        key: &Key,
+        submission: &Submission,
+        known: usize,
+        max: usize,
+    ) -> Result<LookPart, AllocError>
+        ensures part { IfOk result
+            (IsLookPart (log_at self.now key.now) submission.now known max) }
+        ensures memory { OnErr result
+            (look_allocates (log_at self.now key.now) submission.now ≡ true) }
+    {
+        let missed = self.missed_entries(key, submission);
+        let others = entries_after(missed, known);
+        if others.len() <= max {
+            return Ok(LookPart::Last(self.look_after(key, submission, known)?));
+        }
+        Ok(LookPart::Entries(clone_entries(self.alloc, &others[..max])?))
+    }
+
+    // Looks, without the first `known` missed entries.
+    fn look_after(
+        &self,
+        key: &Key,
+        submission: &Submission,
+        known: usize,
+    ) -> Result<Look, AllocError>
+        ensures look { IfOk result
+            (λ l. plain_look l ≡ look_after known (look_at (log_at self.now key.now) submission.now)) }
+        ensures memory { OnErr result
+            (look_allocates (log_at self.now key.now) submission.now ≡ true) }
+    {
         match self.find(key) {
-            Some(document) => look_at(self.alloc, document.decided(), submission),
-            None => look_at(self.alloc, &DecidedLog::new(self.alloc), submission),
+            Some(document) => look_after(self.alloc, document.decided(), submission, known),
+            None => look_after(self.alloc, &DecidedLog::new(self.alloc), submission, known),
         }
     }
 
@@ -117,11 +166,36 @@ impl Shard {
             return self.commit_now(key, work.submission(), now);
         };
         match work.resume(self.alloc, look) {
-            Ok(mut resumed) => match self.commit(key, &mut resumed, now) {
-                Outcome::Decided(reply) => reply,
-                Outcome::Moved(_) => unreachable!(),
-            },
+            Ok(resumed) => self.commit_current(key, resumed, now),
             Err(attempt) => self.commit_now(key, &attempt.submission, now),
+        }
+    }
+
+    /// Decides as [`commit_last`](Shard::commit_last) does. It copies and transforms against only
+    /// the entries that were stored after the look of the work.
+    pub fn commit_newer(&mut self, key: &Key, work: Work, now: Moment) -> Reply
+        requires { IsLook (log_at self.old key.now) work }
+        ensures { StateAfterDecision (plain_key key.now) work.submission now (plain_reply result)
+            (state_of self.old) (state_of self.new) }
+    {
+        let Ok(newer) = self.look_after(key, work.submission(), work.missed().len()) else {
+            return self.commit_now(key, work.submission(), now);
+        };
+        match work.extend(self.alloc, newer) {
+            Ok(extended) => self.commit_current(key, extended, now),
+            Err(submission) => self.commit_now(key, &submission, now),
+        }
+    }
+
+    // Decides the submission of a work whose look is at the current log.
+    fn commit_current(&mut self, key: &Key, mut work: Work, now: Moment) -> Reply
+        requires { work.look ≡ look_at (log_at self.old key.now) work.submission }
+        ensures { StateAfterDecision (plain_key key.now) work.submission now (plain_reply result)
+            (state_of self.old) (state_of self.new) }
+    {
+        match self.commit(key, &mut work, now) {
+            Outcome::Decided(reply) => reply,
+            Outcome::Moved(_) => unreachable!(),
         }
     }
 
@@ -212,9 +286,16 @@ impl Shard {
         ensures { IfOk result
             (λ v. v.items ≡ missed_entries (log_at self.now key.now) submission.now) }
     {
+        clone_entries(self.alloc, self.missed_entries(key, submission))
+    }
+
+    // Returns the submission's missed entries.
+    fn missed_entries(&self, key: &Key, submission: &Submission) -> &[Entry]
+        ensures { result.now ≡ missed_entries (log_at self.now key.now) submission.now }
+    {
         match self.find(key) {
-            Some(document) => clone_entries(self.alloc, document.log().missed_entries(submission)),
-            None => Ok(Vec::new(self.alloc)),
+            Some(document) => document.log().missed_entries(submission),
+            None => &[],
         }
     }
 

@@ -7,7 +7,7 @@ ghost use Rattle.sdb_oplog.specs.declared.codes.Code.TheVariants.{E10};
 ghost use Rattle.sdb_value.specs.Uniqueness.{is_frozen};
 ghost use Rattle.sdb_value.specs.View.{value_of};
 ghost use Rattle.sdb_desk.specs.ShardView.{cache_at, log_at, state_of};
-ghost use Rattle.sdb_desk.specs.Reads.{IsReplayBase, IsCachedReplayBase};
+ghost use Rattle.sdb_desk.specs.Reads.{IsReplayBase, IsCachedReplayBase, IsEarlierReplayBase};
 ghost use Rattle.sdb_desk.specs.Machine.{fetch_result, operations_from, operations_between, snapshot_at, is_nonempty, read_has_document, read_has_version, version_at_moment, fetch_at_moment, ReadOrOutOfMemory};
 ghost use Rattle.sdb_desk.specs.View.{plain_replay_base, fetch_result_view, entries_view};
 ghost use Rattle.sdb_desk.specs.ShardState.{with_cache};
@@ -227,6 +227,34 @@ impl Shard {
         match self.slots.get_mut(key) {
             Some(slot) => slot.replay_base(self.alloc, version),
             None => Ok(empty_replay_base(self.alloc)),
+        }
+    }
+
+    /// Returns the replay base of an earlier version, whose replay needs `max` entries: the nearest
+    /// cached snapshot up to this version, and the entries after it. Returns `None` if the replay
+    /// base of this version has at most `max` entries, or the version isn't below the current one.
+    ///
+    /// A caller that replays it and [offers](Shard::offer) the document has fewer entries left to
+    /// copy at once.
+    ///
+    /// # Errors
+    ///
+    /// [`AllocError`] if an allocation fails. No log and no queue changes.
+    pub fn earlier_replay_base(
+        &mut self,
+        key: &Key,
+        version: u64,
+        max: u64,
+    ) -> Result<Option<ReplayBase>, AllocError>
+        ensures earlier { IfOk result (λ o. IfSome o
+            (λ l. IsEarlierReplayBase (log_at self.old key.now) (cache_at self.old key.now) version max
+            (plain_replay_base l))) }
+        ensures cache { StateAfterUse (plain_key key.now) version
+            (state_of self.old) (state_of self.new) }
+    {
+        match self.slots.get_mut(key) {
+            Some(slot) => slot.earlier_replay_base(self.alloc, version, max),
+            None => Ok(None),
         }
     }
 

@@ -29,6 +29,15 @@ pub struct Look {
     pub snapshot: Option<Json>,
 }
 
+/// A look whose first missed entries the caller has, or entries that come before such a look.
+#[derive(Drop)]
+pub enum LookPart {
+    /// The look, with the other missed entries.
+    Last(Look),
+    /// The next missed entries, of more that follow.
+    Entries(Vec<Entry>),
+}
+
 /// A submission with its look.
 #[derive(Drop)]
 pub struct Attempt {

@@ -8,7 +8,7 @@ ghost use Rattle.sdb_service_tests.specs.Seen.{IsSeen, StaySeen};
 use crate::helpers::{
     content, counter_of, create_counter, key, number_of, stored_version, submission, text,
 };
-use sdb_desk::{Attempt, Outcome, Reply, Shard, Work};
+use sdb_desk::{Attempt, LookPart, Outcome, Reply, Shard, Work};
 use sdb_oplog::{Code, Content, Entry, Key, Moment, Submission};
 use sdb_subscribe::SubId;
 use sdb_value::{Step, find_mut};
@@ -111,6 +111,12 @@ impl TestDocument {
         self.shard.commit_last(&self.key, work, Moment::zero())
     }
 
+    fn commit_newer(&mut self, work: Work) -> Reply
+        requires { IsSeen (plain_key self.old.key) self.old.shard work }
+    {
+        self.shard.commit_newer(&self.key, work, Moment::zero())
+    }
+
     // Returns the version and the number of the document.
     fn version_and_number(&mut self, rt: &impl Abort) -> (u64, Option<i64>) {
         let fetched = self.shard.fetch(&self.key).expect(rt, "out of memory");
@@ -180,6 +186,43 @@ fn commit_last_decides_on_a_longer_log(rt: HostRuntime) {
     assert!(rt;
         stored_version(&reply) == Some((2, 1)) && document.version_and_number(&rt) == (3, Some(11))
     );
+}
+
+// Another edit is stored after the look of the work.
+#[test]
+fn commit_newer_decides_on_a_longer_log(rt: HostRuntime) {
+    let mut document = TestDocument::new(&rt, rt.alloc());
+    let late = document.rebased_edit(&rt, 10);
+    document.store_edits(&rt, 1, 2);
+    let reply = document.commit_newer(late);
+    assert!(rt;
+        stored_version(&reply) == Some((3, 2)) && document.version_and_number(&rt) == (4, Some(12))
+    );
+}
+
+// Returns the number of entries in a part of the look of an edit with base version 1, and whether
+// it is the last part.
+fn look_part(rt: &impl Abort, document: &TestDocument, known: usize) -> (usize, bool) {
+    let late = document.edit(rt, ("y", 1), Some(1), 5);
+    let part = document.shard.look_part(&document.key, &late, known, 2);
+    match part.expect(rt, "out of memory") {
+        LookPart::Entries(entries) => (entries.len(), false),
+        LookPart::Last(look) => (look.missed.len(), true),
+    }
+}
+
+#[test]
+fn a_look_is_copied_in_parts(rt: HostRuntime) {
+    let mut document = TestDocument::new(&rt, rt.alloc());
+    document.store_edits(&rt, 1, 3);
+    for (known, part) in [
+        (0, (2, false)),
+        (1, (2, true)),
+        (3, (0, true)),
+        (9, (0, true)),
+    ] {
+        assert!(rt; look_part(&rt, &document, known) == part);
+    }
 }
 
 // Checks the log, the version, and the versions at which a queue may start.
@@ -258,6 +301,37 @@ fn a_replay_starts_at_the_nearest_cached_version(rt: HostRuntime) {
             && replay_start(&rt, &mut document, 8) == (8, 0)
             && replay_number(&rt, &mut document, 10) == Some(9)
             && matches!(document.shard.replay_base(&document.key, 13), Err(Code::E4))
+    );
+}
+
+// Returns the version at which the replay of an earlier version starts, and its number of entries.
+fn earlier_start(
+    rt: &impl Abort,
+    document: &mut TestDocument,
+    version: u64,
+    max: u64,
+) -> Option<(u64, usize)> {
+    let base = document
+        .shard
+        .earlier_replay_base(&document.key, version, max)
+        .expect(rt, "out of memory");
+    match base {
+        Some(base) => Some((base.version, base.entries.len())),
+        None => None,
+    }
+}
+
+#[test]
+fn a_replay_may_begin_with_an_earlier_version(rt: HostRuntime) {
+    let mut document = TestDocument::new(&rt, rt.alloc());
+    document.store_edits(&rt, 1, 11);
+    assert!(rt;
+        earlier_start(&rt, &mut document, 8, 3) == Some((0, 3))
+            && number_at(&rt, &mut document, 3) == Some(2)
+            && earlier_start(&rt, &mut document, 8, 3) == Some((3, 3))
+            && earlier_start(&rt, &mut document, 6, 3) == None
+            && earlier_start(&rt, &mut document, 12, 3) == None
+            && earlier_start(&rt, &mut document, 13, 3) == None
     );
 }
 
