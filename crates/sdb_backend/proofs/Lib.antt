@@ -7,6 +7,7 @@ pub mod ReplySend
 pub mod SearchLemmas
 pub mod SeenLemmas
 pub mod StepLemmas
+pub mod PartialReadLemmas
 pub mod PassRunLemmas
 pub mod ReplacedItem
 pub mod RestoredLogs

@@ -11,3 +11,4 @@ pub mod PassRuns
 pub mod RestorationModel
 pub mod UnsavedEntries
 pub mod laws
+pub mod ReadsInParts

@@ -1,22 +1,20 @@
 //! A backend as a desk.
-ghost use Rattle.std.specs.Prelude.{◌≡◌, IfOk, Some, option_map};
+ghost use Rattle.std.specs.Prelude.{◌≡◌, IfOk, option_map};
 ghost use Rattle.sdb_oplog.specs.Keys.{plain_key};
 ghost use Rattle.sdb_desk.specs.ReplyView.{plain_reply};
-ghost use Rattle.sdb_desk.specs.View.{fetch_result_view, taken_view};
-ghost use Rattle.sdb_submit.specs.Calls.{snapshot_at_time, commit_now, snapshot, take_next};
+ghost use Rattle.sdb_desk.specs.View.{taken_view};
+ghost use Rattle.sdb_submit.specs.Calls.{commit_now, take_next};
 ghost use Rattle.sdb_backend.specs.CallAnswers.{AnsweredAtExtension, IsLookSeenBy, ForgetsCache, AddsEntry, TakeContinues};
 ghost use Rattle.sdb_backend.specs.PassModel.{pass_number, IsPassOfBackend};
 
 use crate::backend::Backend;
+use crate::commit_jobs::CommitNowJob;
 use crate::jobs::{
-    CommitJob, CommitLastJob, CommitNowJob, FetchJob, ForgetJob, LookJob as Looking, OfferJob,
-    OpsBetweenJob, OpsFromJob, ReplayBaseAt, ReplayBaseAtMomentJob, ReplayBaseJob, SnapshotAtJob,
-    SnapshotAtTimeJob, SubscribeJob, TakeJob, UnsubscribeJob, VersionJob,
+    FetchJob, ForgetJob, OpsBetweenJob, OpsFromJob, SnapshotAtJob, SnapshotAtTimeJob, SubscribeJob,
+    TakeJob, UnsubscribeJob, VersionJob,
 };
 use crate::pass::Pass;
-use sdb_desk::{
-    CommitDecision, FetchResult, Look, Outcome, ReplayBase, Reply, SubscribeResult, Work,
-};
+use sdb_desk::{CommitDecision, FetchResult, Look, Outcome, Reply, SubscribeResult, Work};
 use sdb_oplog::{Code, Entry, Key, Moment, Submission};
 use sdb_submit::{Desk, Gate, submit};
 use sdb_subscribe::SubId;
@@ -45,16 +43,11 @@ impl<R: Wait + Drop> Desk for Backend<R> {
         key: &Key,
         submission: &Submission,
     ) -> Result<Look, AllocError> {
-        self.run(pass, key, Looking { key, submission })
+        self.look_from(pass, key, submission, Vec::new(self.alloc))
     }
 
     fn commit(&self, pass: &mut Pass, key: &Key, work: &mut Work, now: Moment) -> Outcome {
-        let commit = CommitJob {
-            key,
-            work: &*work,
-            now,
-        };
-        let decision = self.run(pass, key, commit);
+        let decision = self.decide(pass, key, &*work, now);
         if let CommitDecision::Store { v } = &decision {
             self.counts.record(*v);
         }
@@ -79,9 +72,13 @@ impl<R: Wait + Drop> Desk for Backend<R> {
     }
 
     fn commit_last(&self, pass: &mut Pass, key: &Key, work: Work, now: Moment) -> Reply {
-        let reply = self.run(pass, key, CommitLastJob { key, work, now });
-        self.counts.record_reply(&reply);
-        reply
+        let Ok(look) = self.look(pass, key, work.submission()) else {
+            return self.commit_now(pass, key, work.submission(), now);
+        };
+        match work.resume(self.alloc, look) {
+            Ok(resumed) => self.commit_resumed(pass, key, resumed, now),
+            Err(attempt) => self.commit_now(pass, key, &attempt.submission, now),
+        }
     }
 
     fn version(&self, pass: &mut Pass, key: &Key) -> u64 {
@@ -159,63 +156,6 @@ impl<R: Wait + Drop> Desk for Backend<R> {
 
     fn by(&self, pass: &Pass) -> u64 {
         pass.number()
-    }
-}
-
-impl<R: Wait + Drop> Backend<R> {
-    // Returns the document at a version. The replay base is copied under the lock and replayed
-    // without it; the new snapshot is then offered to the cache.
-    fn snapshot_of(&self, pass: &mut Pass, key: &Key, version: u64) -> Result<FetchResult, Code>
-        requires { IsPassOfBackend pass.old self.now }
-        ensures pass { IsPassOfBackend pass.new self.now }
-        ensures answered { AnsweredAtExtension (plain_key key.now) (snapshot (Some version)) pass.old
-            (fetch_result_view result) pass.new }
-    {
-        let replay_start = self.run(pass, key, ReplayBaseJob { key, version })?;
-        if replay_start.entries.is_empty() {
-            let ReplayBase { snapshot, .. } = replay_start;
-            return Ok(FetchResult { version, snapshot });
-        }
-        let snapshot = replay_start.replay(self.alloc)?;
-        let offer = OfferJob {
-            key,
-            version,
-            snapshot: &snapshot,
-        };
-        self.run(pass, key, offer);
-        Ok(FetchResult { version, snapshot })
-    }
-
-    // Returns the version at a moment and the document at it, replayed without the lock. Entries
-    // stored meanwhile are later than the moment, unless the version is the current one, which
-    // needs no replay.
-    fn snapshot_at_moment(
-        &self,
-        pass: &mut Pass,
-        key: &Key,
-        moment: Moment,
-    ) -> Result<FetchResult, Code>
-        requires { IsPassOfBackend pass.old self.now }
-        ensures pass { IsPassOfBackend pass.new self.now }
-        ensures answered { AnsweredAtExtension (plain_key key.now) (snapshot_at_time (Some moment)) pass.old
-            (fetch_result_view result) pass.new }
-    {
-        let ReplayBaseAt {
-            version,
-            base: replay_start,
-        } = self.run(pass, key, ReplayBaseAtMomentJob { key, moment })?;
-        if replay_start.entries.is_empty() {
-            let ReplayBase { snapshot, .. } = replay_start;
-            return Ok(FetchResult { version, snapshot });
-        }
-        let snapshot = replay_start.replay(self.alloc)?;
-        let offer = OfferJob {
-            key,
-            version,
-            snapshot: &snapshot,
-        };
-        self.run(pass, key, offer);
-        Ok(FetchResult { version, snapshot })
     }
 }
 

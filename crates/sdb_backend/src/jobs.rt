@@ -1,96 +1,23 @@
-//! The calls of a shard as jobs under a lock. Each job does what the machine does for its call.
-ghost use Rattle.std.specs.Prelude.{◌≡◌, [], option_map};
+//! The reads and queues of a shard as jobs under a lock.
+ghost use Rattle.std.specs.Prelude.{◌≡◌, [], Some, option_map};
 ghost use Rattle.sdb_oplog.specs.Decide.{IsMade};
 ghost use Rattle.sdb_oplog.specs.Keys.{plain_key};
 ghost use Rattle.sdb_desk.specs.ShardView.{machine_of, logs_of, caches_of};
-ghost use Rattle.sdb_desk.specs.Looks.{IsLook};
-ghost use Rattle.sdb_desk.specs.View.{outcome_of_decision, fetch_result_view, entries_view, subscribe_result_view, taken_view};
-ghost use Rattle.sdb_desk.specs.ReplyView.{plain_reply};
-ghost use Rattle.sdb_submit.specs.Calls.{MachineStep, copied_entries_view, look_view};
+ghost use Rattle.sdb_desk.specs.View.{fetch_result_view, entries_view, subscribe_result_view, taken_view};
+ghost use Rattle.sdb_submit.specs.Calls.{MachineStep, copied_entries_view};
 ghost use Rattle.sdb_submit.specs.Calls as call;
 ghost use Rattle.sdb_value.specs.View.{value_of};
-ghost use Rattle.sdb_desk.specs.Machine.{IsUnchanged};
-ghost use Rattle.sdb_backend.specs.UnsavedEntries.{unsaved_of, UnsavedAfterReply, UnsavedAfterOutcome};
+ghost use Rattle.sdb_desk.specs.Machine.{IsUnchanged, version_at_moment};
+ghost use Rattle.sdb_backend.specs.ReadsInParts.{IsEarlierBaseOrNone};
 ghost use Rattle.sdb_backend.specs.ReplayBases.{IsDocumentAt, IsReplayBaseOrError, IsReplayBaseAtOrError, replay_base_view, replay_base_at_view};
 
 use crate::shard_value::Held;
-use sdb_desk::{
-    CommitDecision, FetchResult, Look as Shown, ReplayBase, Reply, SubscribeResult, Work,
-};
+use sdb_desk::{FetchResult, ReplayBase, SubscribeResult};
 use sdb_growlock::Job;
-use sdb_oplog::{Code, Entry, Key, Moment, Submission};
+use sdb_oplog::{Code, Entry, Key, Moment};
 use sdb_subscribe::SubId;
 use sdb_value::Json;
 use std::alloc::AllocError;
-
-pub(crate) struct LookJob<'a> {
-    pub(crate) key: &'a Key,
-    pub(crate) submission: &'a Submission,
-}
-
-impl<'a> Job<Held> for LookJob<'a> {
-    type Answer = Result<Shown, AllocError>;
-
-    ghost precondition = { λ j n a. j.submission.now.by ≡ n };
-
-    ghost postcondition = { λ j n a b r. MachineStep n (machine_of a.shard) (plain_key j.key.now)
-        (call.look j.submission.now) (look_view r) (machine_of b.shard) };
-
-    fn run(self, _number: u64, held: &mut Held) -> Result<Shown, AllocError> {
-        let Self { key, submission } = self;
-        held.shard.look(key, submission)
-    }
-}
-
-pub(crate) struct CommitNowJob<'a> {
-    pub(crate) key: &'a Key,
-    pub(crate) submission: &'a Submission,
-    pub(crate) now: Moment,
-}
-
-impl<'a> Job<Held> for CommitNowJob<'a> {
-    type Answer = Reply;
-
-    ghost precondition = { λ j n a. j.submission.now.by ≡ n };
-
-    ghost postcondition = { λ j n a b r. MachineStep n (machine_of a.shard) (plain_key j.key.now)
-        (call.commit_now j.submission.now j.now) (plain_reply r) (machine_of b.shard)
-        × UnsavedAfterReply (plain_key j.key.now) (plain_reply r) (unsaved_of a) (unsaved_of b) };
-
-    fn run(self, _number: u64, held: &mut Held) -> Reply {
-        let Self {
-            key,
-            submission,
-            now,
-        } = self;
-        let reply = held.shard.commit_now(key, submission, now);
-        held.list_reply(key, &reply);
-        reply
-    }
-}
-
-pub(crate) struct CommitLastJob<'a> {
-    pub(crate) key: &'a Key,
-    pub(crate) work: Work,
-    pub(crate) now: Moment,
-}
-
-impl<'a> Job<Held> for CommitLastJob<'a> {
-    type Answer = Reply;
-
-    ghost precondition = { λ j n a. j.work.submission.by ≡ n };
-
-    ghost postcondition = { λ j n a b r. MachineStep n (machine_of a.shard) (plain_key j.key.now)
-        (call.commit_now j.work.submission j.now) (plain_reply r) (machine_of b.shard)
-        × UnsavedAfterReply (plain_key j.key.now) (plain_reply r) (unsaved_of a) (unsaved_of b) };
-
-    fn run(self, _number: u64, held: &mut Held) -> Reply {
-        let Self { key, work, now } = self;
-        let reply = held.shard.commit_last(key, work, now);
-        held.list_reply(key, &reply);
-        reply
-    }
-}
 
 pub(crate) struct FetchJob<'a> {
     pub(crate) key: &'a Key,
@@ -239,6 +166,47 @@ impl<'a> Job<Held> for ReplayBaseJob<'a> {
     }
 }
 
+// The replay base of an earlier version, `max` entries after the nearest cached snapshot.
+pub(crate) struct EarlierReplayBaseJob<'a> {
+    pub(crate) key: &'a Key,
+    pub(crate) version: u64,
+    pub(crate) max: u64,
+}
+
+impl<'a> Job<Held> for EarlierReplayBaseJob<'a> {
+    type Answer = Result<Option<ReplayBase>, AllocError>;
+
+    ghost precondition = { λ j n a. Unit {0} };
+
+    ghost postcondition = { λ j n a b r. IsEarlierBaseOrNone (logs_of a.shard (plain_key j.key.now)) j.version j.max r
+        × IsUnchanged (machine_of a.shard) (machine_of b.shard) };
+
+    fn run(self, _number: u64, held: &mut Held) -> Result<Option<ReplayBase>, AllocError> {
+        let Self { key, version, max } = self;
+        held.shard.earlier_replay_base(key, version, max)
+    }
+}
+
+// The version at a moment.
+pub(crate) struct VersionAtJob<'a> {
+    pub(crate) key: &'a Key,
+    pub(crate) moment: Moment,
+}
+
+impl<'a> Job<Held> for VersionAtJob<'a> {
+    type Answer = u64;
+
+    ghost precondition = { λ j n a. Unit {0} };
+
+    ghost postcondition = { λ j n a b r. (r ≡ version_at_moment (logs_of a.shard (plain_key j.key.now)) (Some j.moment))
+        × IsUnchanged (machine_of a.shard) (machine_of b.shard) };
+
+    fn run(self, _number: u64, held: &mut Held) -> u64 {
+        let Self { key, moment } = self;
+        held.shard.version_at(key, Some(moment))
+    }
+}
+
 pub(crate) struct OfferJob<'a> {
     pub(crate) key: &'a Key,
     pub(crate) version: u64,
@@ -338,31 +306,6 @@ impl<'a> Job<Held> for UnsubscribeJob<'a> {
     fn run(self, number: u64, held: &mut Held) {
         let Self { key, id } = self;
         held.shard.unsubscribe(key, number, id)
-    }
-}
-
-pub(crate) struct CommitJob<'a> {
-    pub(crate) key: &'a Key,
-    pub(crate) work: &'a Work,
-    pub(crate) now: Moment,
-}
-
-impl<'a> Job<Held> for CommitJob<'a> {
-    type Answer = CommitDecision;
-
-    ghost precondition = { λ j n a. (j.work.now.submission.by ≡ n)
-        × IsLook (logs_of a.shard (plain_key j.key.now)) j.work.now };
-
-    ghost postcondition = { λ j n a b r. MachineStep n (machine_of a.shard) (plain_key j.key.now)
-        (call.commit j.work.now j.now) (outcome_of_decision j.work.now r) (machine_of b.shard)
-        × UnsavedAfterOutcome (plain_key j.key.now) (outcome_of_decision j.work.now r) (unsaved_of a)
-        (unsaved_of b) };
-
-    fn run(self, _number: u64, held: &mut Held) -> CommitDecision {
-        let Self { key, work, now } = self;
-        let decision = held.shard.decide(key, work, now);
-        held.list_decision(key, work, &decision);
-        decision
     }
 }
 

@@ -9,10 +9,12 @@
 mod audit;
 mod audit_listing;
 mod backend;
+mod commit_jobs;
 mod counts;
 mod desk;
 mod jobs;
 pub mod laws;
+mod partial_reads;
 mod pass;
 mod pass_check;
 mod restoration;

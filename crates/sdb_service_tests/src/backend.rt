@@ -165,6 +165,51 @@ fn documents_are_fetched_at_moments(rt: HostRuntime) {
     );
 }
 
+// Adds 1 for each seq of the range, at the moment with this number of milliseconds.
+fn add_many<R: Wait + Drop>(
+    rt: &impl Abort,
+    alloc: Global,
+    backend: &Backend<R>,
+    pass: &mut Pass,
+    key: &Key,
+    last: u64,
+)
+    requires { IsPassOfBackend pass.old backend.now }
+    ensures { IsPassOfBackend pass.new backend.now }
+{
+    for seq in 2..=last {
+        add_at(rt, alloc, backend, pass, key, seq, seq);
+    }
+}
+
+// The entries that an edit missed, and those that are replayed for an old version, are copied in
+// several parts.
+#[test]
+fn many_entries_are_copied_in_parts(rt: HostRuntime) {
+    let alloc = rt.alloc();
+    let TestBackend {
+        backend,
+        first: mut pass,
+        ..
+    } = open_backend(&rt, alloc, rt);
+    let key = key(&rt, alloc, "1");
+    create(&rt, alloc, &backend, &mut pass, &key);
+    add_many(&rt, alloc, &backend, &mut pass, &key, 20_000);
+    let edit = increment(&rt, alloc, 1);
+    let late = submission_of_pass(&rt, alloc, &pass, 20_001, Some(1), edit);
+    let now = Moment::zero();
+    let reply = submit(alloc, &backend, &mut pass, &key, late, now, &NoGate);
+    let old = backend.snapshot_at(&mut pass, &key, Some(19_000));
+    let old = counter_of(old.expect(&rt, "out of memory").snapshot.as_ref());
+    let moment = Moment::new(18_000);
+    assert!(rt;
+        stored_version(&reply) == Some((20_000, 19_999))
+            && old == Some(18_999)
+            && fetch_at_moment(&rt, &backend, &mut pass, &key, moment) == (18_000, Some(17_999))
+            && fetch_counter(&rt, &backend, &mut pass, &key) == Some(20_000)
+    );
+}
+
 // A gate that records the number of the last try. It blocks the first try until another submission
 // is answered, with a bounded wait.
 #[derive(Drop)]

@@ -1,11 +1,14 @@
-use Rattle.std.proofs.Common.{sym, subst}
+use Rattle.std.proofs.Common.{sym, subst, refl, ap, ◌∙◌}
 use Rattle.sdb_oplog.specs.Keys.{plain_key}
 use Rattle.sdb_desk.specs.ShardView.{state_of, machine_of}
 use Rattle.sdb_desk.specs.View.{outcome_of_decision}
 use Rattle.sdb_submit.specs.Calls.{MachineStep, commit}
 use Rattle.sdb_submit.specs.laws.ShardLaws.{commit_call}
 use Rattle.sdb_backend.proofs.HistoryGrowth.{MachineGrows, call_grown}
-use Rattle.sdb_backend.proofs.jobs.CommitJobJobHeld.run.Goals as goal
+use Rattle.sdb_backend.proofs.commit_jobs.CommitJobJobHeld.run.Goals as goal
+
+pub returns-then-version-clause-postcondition : goal.returns-then-version-clause-postcondition
+returns-then-version-clause-postcondition c = (record { look = c.requires.1; grown = λ e. c.if-version.true (c.version.ensures ∙ e ∙ sym c.version-2.ensures) }, (refl, refl))
 
 pub returns-clause-extends : goal.returns-clause-extends
 returns-clause-extends c =

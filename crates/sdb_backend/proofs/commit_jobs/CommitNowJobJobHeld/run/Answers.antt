@@ -5,7 +5,7 @@ use Rattle.sdb_desk.specs.ReplyView.{plain_reply}
 use Rattle.sdb_submit.specs.Calls.{MachineStep, commit_now}
 use Rattle.sdb_submit.specs.laws.ShardLaws.{commit_now_call}
 use Rattle.sdb_backend.proofs.HistoryGrowth.{MachineGrows, call_grown}
-use Rattle.sdb_backend.proofs.jobs.CommitNowJobJobHeld.run.Goals as goal
+use Rattle.sdb_backend.proofs.commit_jobs.CommitNowJobJobHeld.run.Goals as goal
 
 pub returns-clause-extends : goal.returns-clause-extends
 returns-clause-extends c =
