@@ -8,6 +8,7 @@ mod chunk_list;
 mod chunk_split;
 mod chunked_vec;
 mod group_list;
+mod item_edit;
 mod iter;
 mod regroup;
 
