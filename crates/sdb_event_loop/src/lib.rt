@@ -38,6 +38,7 @@ mod loop_server;
 mod loop_slot;
 mod loop_slots;
 mod loop_threads;
+mod loop_wakes;
 mod metrics;
 mod pass_supply;
 mod pending_document;

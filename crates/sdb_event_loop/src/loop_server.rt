@@ -4,16 +4,15 @@ ghost use Rattle.sdb_backend.specs.PassModel.{IsHostOfBackend};
 ghost use Rattle.sdb_backend.specs.declared.pass.Host.{Host as HostState};
 ghost use Rattle.sdb_event_loop.specs.LoopModel.{IsHostOfLoops, loops_backend};
 
-use crate::document_group::DocumentGroup;
-use crate::large_turns::{LargeTurn, LargeTurns};
+use crate::large_turns::LargeTurns;
 use crate::loop_port::LoopPort;
 use crate::metrics::Metrics;
 use crate::plain_request::ServerStatus;
 use sdb_backend::Backend;
 use sdb_progress::SaveProgress;
 use std::alloc::{AllocError, Global};
+use std::sync::Arc;
 use std::sync::atomic::{AtomicBool, AtomicU64, AtomicUsize, Ordering};
-use std::sync::{Arc, Wait};
 use std::thread::Parker;
 
 /// Maximum number of loops.
@@ -51,25 +50,25 @@ pub struct LoopServer<R, P> {
     session_limit: Option<u64>,
     // The progress of saving, if operations are saved.
     progress: Option<Arc<SaveProgress, Global>>,
-    is_stopped: AtomicBool,
+    pub(crate) is_stopped: AtomicBool,
     // Set once all loops run. Loops accept connections only then.
-    is_open: AtomicBool,
+    pub(crate) is_open: AtomicBool,
     // Set if the loops must end.
-    is_ending: AtomicBool,
+    pub(crate) is_ending: AtomicBool,
     // Set while connections can't be accepted.
     is_accept_failing: AtomicBool,
     // The number of the loop that accepts the next connection.
-    accept_turn: AtomicUsize,
-    connection_count: AtomicUsize,
-    client_count: AtomicUsize,
+    pub(crate) accept_turn: AtomicUsize,
+    pub(crate) connection_count: AtomicUsize,
+    pub(crate) client_count: AtomicUsize,
     // Numbers of clients that were admitted, and whose sessions have ended.
     admitted_count: AtomicU64,
-    ended_count: AtomicU64,
+    pub(crate) ended_count: AtomicU64,
     pub(crate) metrics: Metrics,
     pub(crate) large_turns: LargeTurns,
-    ports: Vec<LoopPort>,
+    pub(crate) ports: Vec<LoopPort>,
     // The thread that supplies passes parks here.
-    supplier: Parker,
+    pub(crate) supplier: Parker,
 }
 
 impl<R: Drop, P: Drop> LoopServer<R, P> {
@@ -310,7 +309,7 @@ impl<R, P> LoopServer<R, P> {
     }
 
     // Returns the maximum number of connections.
-    fn connection_limit(&self) -> usize {
+    pub(crate) fn connection_limit(&self) -> usize {
         self.options.clients.saturating_add(OTHER_CONNECTION_LIMIT)
     }
 
@@ -325,7 +324,7 @@ impl<R, P> LoopServer<R, P> {
     }
 
     // Returns whether one more session is permitted after this number.
-    fn is_session_permitted(&self, admitted: u64) -> bool {
+    pub(crate) fn is_session_permitted(&self, admitted: u64) -> bool {
         match self.session_limit {
             Some(limit) => admitted < limit,
             None => true,
@@ -347,89 +346,6 @@ impl<R, P> LoopServer<R, P> {
     pub(crate) fn cancel_client(&self) {
         self.admitted_count.fetch_sub(1, Ordering::SeqCst);
         self.client_count.fetch_sub(1, Ordering::SeqCst);
-    }
-}
-
-impl<R, P> LoopServer<R, P> {
-    /// Stops the server: [`listen_on_loops`](crate::listen_on_loops) accepts no more connections,
-    /// closes each session with status 1001, and returns. A stop is final.
-    pub fn stop<W: Wait>(&self, rt: &W) {
-        self.is_stopped.store(true, Ordering::SeqCst);
-        self.end(rt);
-        self.supplier.unpark();
-    }
-
-    /// Wakes all loops and the thread that supplies passes. The thread that saves calls this after each
-    /// round, whether it was committed or has failed.
-    pub fn notify_committed<W: Wait>(&self, rt: &W) {
-        self.wake_all(rt);
-        self.supplier.unpark();
-    }
-
-    /// Counts a client less after its session. Stops the server if that was the last one.
-    pub(crate) fn end_client<W: Wait>(&self, rt: &W) {
-        self.client_count.fetch_sub(1, Ordering::SeqCst);
-        let ended = self.ended_count.fetch_add(1, Ordering::SeqCst);
-        if !self.is_session_permitted(ended.saturating_add(1)) {
-            self.stop(rt);
-        }
-    }
-
-    /// Makes the loops end.
-    pub(crate) fn end<W: Wait>(&self, rt: &W) {
-        self.is_ending.store(true, Ordering::SeqCst);
-        self.wake_all(rt);
-    }
-
-    /// Allows the loops to accept connections.
-    pub(crate) fn open<W: Wait>(&self, rt: &W) {
-        self.is_open.store(true, Ordering::SeqCst);
-        self.wake_all(rt);
-    }
-
-    /// Wakes all loops that wait.
-    pub(crate) fn wake_all<W: Wait>(&self, rt: &W) {
-        for port in &self.ports {
-            port.wake(rt);
-        }
-    }
-
-    /// Wakes each loop that has a subscriber of the group.
-    pub(crate) fn notify<W: Wait>(&self, rt: &W, group: DocumentGroup) {
-        for port in &self.ports {
-            port.notify(rt, group);
-        }
-    }
-
-    /// Lets the next loop accept the next connection.
-    pub(crate) fn pass_accept_turn<W: Wait>(&self, rt: &W, number: usize) {
-        let next = number.saturating_add(1) % self.loop_count().max(1);
-        self.accept_turn.store(next, Ordering::SeqCst);
-        if next != number {
-            self.wake_loop(rt, next);
-        }
-    }
-
-    /// Wakes a loop that waits.
-    pub(crate) fn wake_loop<W: Wait>(&self, rt: &W, number: usize) {
-        if let Some(port) = self.port(number) {
-            port.wake(rt);
-        }
-    }
-
-    /// Ends a large turn. Clients that wait for its place are served next.
-    pub(crate) fn end_large_turn<W: Wait>(&self, rt: &W, turn: LargeTurn) {
-        self.large_turns.end(turn);
-        self.wake_all(rt);
-    }
-
-    /// Counts a connection less. If there was no room for more, the loop whose turn it is accepts
-    /// one.
-    pub(crate) fn remove_connection<W: Wait>(&self, rt: &W) {
-        let count = self.connection_count.fetch_sub(1, Ordering::SeqCst);
-        if count >= self.connection_limit() {
-            self.wake_loop(rt, self.accept_turn());
-        }
     }
 }
 
