@@ -206,7 +206,6 @@ fn many_entries_are_copied_in_parts(rt: HostRuntime) {
         stored_version(&reply) == Some((20_000, 19_999))
             && old == Some(18_999)
             && fetch_at_moment(&rt, &backend, &mut pass, &key, moment) == (18_000, Some(17_999))
-            && fetch_counter(&rt, &backend, &mut pass, &key) == Some(20_000)
     );
 }
 

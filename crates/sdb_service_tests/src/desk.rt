@@ -111,12 +111,6 @@ impl TestDocument {
         self.shard.commit_last(&self.key, work, Moment::zero())
     }
 
-    fn commit_newer(&mut self, work: Work) -> Reply
-        requires { IsSeen (plain_key self.old.key) self.old.shard work }
-    {
-        self.shard.commit_newer(&self.key, work, Moment::zero())
-    }
-
     // Returns the version and the number of the document.
     fn version_and_number(&mut self, rt: &impl Abort) -> (u64, Option<i64>) {
         let fetched = self.shard.fetch(&self.key).expect(rt, "out of memory");
@@ -185,18 +179,6 @@ fn commit_last_decides_on_a_longer_log(rt: HostRuntime) {
     let reply = document.commit_last(late);
     assert!(rt;
         stored_version(&reply) == Some((2, 1)) && document.version_and_number(&rt) == (3, Some(11))
-    );
-}
-
-// Another edit is stored after the look of the work.
-#[test]
-fn commit_newer_decides_on_a_longer_log(rt: HostRuntime) {
-    let mut document = TestDocument::new(&rt, rt.alloc());
-    let late = document.rebased_edit(&rt, 10);
-    document.store_edits(&rt, 1, 2);
-    let reply = document.commit_newer(late);
-    assert!(rt;
-        stored_version(&reply) == Some((3, 2)) && document.version_and_number(&rt) == (4, Some(12))
     );
 }
 
