@@ -28,12 +28,13 @@ class Server:
 
     The variable SERVER_OPTIONS has further options of the program, as `--loops 1`."""
 
-    def __init__(self, program, *options, address="127.0.0.1:0", dump=False, restore_signals=True):
+    def __init__(self, program, *options, address="127.0.0.1:0", dump=False, restore_signals=True, environment=None):
         command = [str(program), "--listen", address, *options, *os.environ.get("SERVER_OPTIONS", "").split()]
         if dump:
             command += ["--until-eof", "--dump"]
         pipes = {"stdin": subprocess.PIPE, "stdout": subprocess.PIPE, "stderr": subprocess.PIPE}
-        self.process = subprocess.Popen(command, text=True, restore_signals=restore_signals, **pipes)
+        variables = {**os.environ, **(environment or {})}
+        self.process = subprocess.Popen(command, text=True, restore_signals=restore_signals, env=variables, **pipes)
         try:
             line = self._first_line(self.process.stderr if dump else self.process.stdout)
             match = re.fullmatch(r"listening (\S+):(\d+)\n", line)
