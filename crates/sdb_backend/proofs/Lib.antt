@@ -7,7 +7,8 @@ pub mod ReplySend
 pub mod SearchLemmas
 pub mod SeenLemmas
 pub mod StepLemmas
-pub mod PartialReadLemmas
+pub mod LookPartLemmas
+pub mod ReplayPartLemmas
 pub mod PassRunLemmas
 pub mod ReplacedItem
 pub mod RestoredLogs

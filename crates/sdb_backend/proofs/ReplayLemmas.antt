@@ -17,7 +17,7 @@ use Rattle.sdb_oplog.specs.Snap.{document_of, snap_from}
 use Rattle.sdb_oplog.specs.declared.codes.Code.{Code}
 use Rattle.sdb_oplog.specs.declared.codes.Code.TheVariants.{E4, E10}
 use Rattle.sdb_desk.specs.Machine.{Machine, PlainFetchResult, IsUnchanged, ReadOrOutOfMemory, read_has_version, snapshot_at, fetch_at_moment}
-use Rattle.sdb_desk.specs.Reads.{PlainReplayBase, IsReplayBase}
+use Rattle.sdb_desk.specs.Reads.{PlainReplayBase, IsReplayBase, IsReplayBaseUpTo}
 use Rattle.sdb_desk.specs.ShardView.{machine_of, logs_of}
 use Rattle.sdb_desk.specs.View.{plain_replay_base}
 use Rattle.sdb_desk.specs.declared.replay_base.ReplayBase.{ReplayBase}
@@ -49,9 +49,13 @@ at_later log new v d h at =
     let longer : v ≤ length (log ++ h.0) = omega (arith, w, n) in
     subst (λ l. IsDocumentAt l v d) (sym h.1) (longer, ap document_of (take-append-le v log h.0 at.0) ∙ at.1)
 
--- at the current version no entry is left to replay, and the base is the document
-pub base_whole : (log : List PlainEntry) (v : ℕ) (l : PlainReplayBase) → IsReplayBase log v l → l.entries ≡ [] → IsDocumentAt log v l.snapshot
-base_whole log v l h none = borrowed_at log v l l.snapshot h (ap (snap_from l.snapshot) none)
+-- a base whose snapshot is at the version has no entries, and is the document
+pub base_at_version : (log : List PlainEntry) (v max : ℕ) (l : PlainReplayBase) → IsReplayBaseUpTo log v max l → l.version ≡ v → IsDocumentAt log v l.snapshot
+base_at_version log v max l h is =
+    let reached : min (l.version + max) v ≡ v = grind (arith, is) in
+    let base : IsReplayBase log v l = subst (λ n. IsReplayBase log n l) reached h.base in
+    let none : l.entries ≡ [] = base.1 ∙ ap (λ w. drop w (take v log)) is ∙ no_entries_after v log in
+    borrowed_at log v l l.snapshot base (ap (snap_from l.snapshot) none)
 
 -- ---- the answer
 
@@ -68,27 +72,12 @@ pub read_at : (by : ℕ) (m new : Machine) (k : PlainKey) (v : ℕ) (d : Option 
 read_at by m new k v d at same =
     (inr (sym (snapshot_at_in_range (m.logs k) v at.0 ∙ ap (λ x. Ok (record { version = v; snapshot = x })) at.1)), same)
 
-take_none : (log : List PlainEntry) → take 0 log ≡ []
-take_none [] = refl
-take_none (e ∷ es) = refl
-
-drop_none : (w : ℕ) → drop {A = PlainEntry} w [] ≡ []
-drop_none zero = refl
-drop_none (suc w) = refl
-
--- if there are entries, the version is above 0
-above_zero : (log : List PlainEntry) (v w : ℕ) (es : List PlainEntry) → es ≡ drop w (take v log) → 0 < length es → 0 < v
-above_zero log zero w es e some =
-    let none : length es ≡ 0 = ap length (e ∙ ap (drop w) (take_none log) ∙ drop_none w) in
-    absurd (omega (arith, none, some))
-above_zero log (suc v) w es e some = omega arith
-
--- an allocation failure during the replay
-pub out_of_memory_at : (by : ℕ) (m new : Machine) (k : PlainKey) (v : ℕ) (l : PlainReplayBase) → IsReplayBase (m.logs k) v l → 0 < length l.entries → IsUnchanged m new
+-- an allocation failure at a version above 0
+pub out_of_memory_read : (by : ℕ) (m new : Machine) (k : PlainKey) (v : ℕ) → v ≤ length (m.logs k) → 0 < v → IsUnchanged m new
     → MachineStep by m k (snapshot (Some v)) (Err E10) new
-out_of_memory_at by m new k v l h some same =
-    let above : nat_lt 0 v ≡ true = lt-ltb 0 v (above_zero (m.logs k) v l.version l.entries h.1 some) in
-    (inl (refl, ap (λ r. option_map_or read_has_version (result_ok r) false) (snapshot_at_in_range (m.logs k) v h.0) ∙ above), same)
+out_of_memory_read by m new k v within some same =
+    let above : nat_lt 0 v ≡ true = lt-ltb 0 v some in
+    (inl (refl, ap (λ r. option_map_or read_has_version (result_ok r) false) (snapshot_at_in_range (m.logs k) v within) ∙ above), same)
 
 -- ---- a document at a moment
 
@@ -114,29 +103,6 @@ then_later log new v t h made is below =
     let time : MomentsOrderedFrom 0 (log ++ h.0) = subst (MomentsOrderedFrom 0) h.1 (made_moments_ordered new made) in
     is ∙ sym (version_at_append 0 log h.0 t time (omega (arith, is, below))) ∙ ap (λ l. version_at l t) (sym h.1)
 
-entries_remain : (es : List PlainEntry) → 0 < length es → es ≡ [] → ⊥
-entries_remain es some none = let n : length es ≡ 0 = ap length none in omega (arith, n, some)
-
--- it isn't the current one if the base has entries
-pub before_present : (log : List PlainEntry) (v : ℕ) (l : PlainReplayBase) → IsReplayBase log v l → (v ≡ length log → l.entries ≡ []) → 0 < length l.entries
-    → v < length log
-before_present log v l h whole some = by_case (nat_eq v (length log)) refl where
-  by_case : (b : Bool) → nat_eq v (length log) ≡ b → v < length log
-  by_case true e = absurd (entries_remain l.entries some (whole (eqb-true v (length log) e)))
-  by_case false e = let w = h.0 in grind (arith, nat_tests)
-
--- the version at a moment, as the pass observed it, holds at the later history if the base has entries
-pub version_unchanged : (k : PlainKey) (t v : ℕ) (l : PlainReplayBase) (at left x w : Held) → v ≡ version_at (logs_of at.shard k) t
-    → IsReplayBase (logs_of at.shard k) v l → (v ≡ length (logs_of at.shard k) → l.entries ≡ []) → 0 < length l.entries
-    → IsUnchanged (machine_of at.shard) (machine_of left.shard) → left ≡ x → IsExtension (logs_of w.shard k) (logs_of x.shard k)
-    → IsMade (logs_of w.shard k) → v ≡ version_at (logs_of w.shard k) t
-version_unchanged k t v l at left x w is lends whole some same one longer made =
-    let Q : Logs → Type 0 = λ f. (v ≡ version_at (f k) t) × (v < length (f k)) in
-    let there : Q (logs_of at.shard) = (is, before_present (logs_of at.shard k) v l lends whole some) in
-    let behind : Q (logs_of left.shard) = subst Q (sym same.0) there in
-    let seen : Q (logs_of x.shard) = subst (λ (y : Held). Q (logs_of y.shard)) one behind in
-    then_later (logs_of x.shard k) (logs_of w.shard k) v t longer made seen.0 seen.1
-
 -- an allocation failure for the base of a moment
 pub out_of_memory_borrowed : (log : List PlainEntry) (v t : ℕ) (code : Code) → v ≡ version_at log t
     → ReadOrOutOfMemory read_has_version (Err code) (snapshot_at log (Some v)) → ReadOrOutOfMemory read_has_version (Err code) (Ok (fetch_at_moment log (Some t)))
@@ -144,12 +110,8 @@ out_of_memory_borrowed log v t code is h =
     let n = version_at_within log t in
     out_of_memory_then log v t code is (omega (arith, is, n)) h
 
--- an allocation failure during its replay
-pub out_of_memory_replayed : (by : ℕ) (m new : Machine) (k : PlainKey) (v t : ℕ) (l : PlainReplayBase) → v ≡ version_at (m.logs k) t
-    → IsReplayBase (m.logs k) v l → 0 < length l.entries → IsUnchanged m new → MachineStep by m k (snapshot_at_time (Some t)) (Err E10) new
-out_of_memory_replayed by m new k v t l is h some same =
-    (out_of_memory_then (m.logs k) v t E10 is h.0 (out_of_memory_at by m new k v l h some same).0, same)
-
--- a list that isn't empty has entries
-pub some_entries : (l : ReplayBase) (r : Bool) → r ≡ (vec_len l.entries == 0) → r ≡ false → 0 < length l.entries.items
-some_entries l r e f = let h : (vec_len l.entries == 0) ≡ false = sym e ∙ f in grind (arith, nat_tests)
+-- an allocation failure at a moment whose version is above 0
+pub out_of_memory_replayed : (by : ℕ) (m new : Machine) (k : PlainKey) (v t : ℕ) → v ≡ version_at (m.logs k) t → v ≤ length (m.logs k) → 0 < v → IsUnchanged m new
+    → MachineStep by m k (snapshot_at_time (Some t)) (Err E10) new
+out_of_memory_replayed by m new k v t is within some same =
+    (out_of_memory_then (m.logs k) v t E10 is within (out_of_memory_read by m new k v within some same).0, same)

@@ -10,7 +10,7 @@ use Rattle.sdb_backend.specs.HistoryOrder.{IsExtension, QueueContinues, QueuesCo
 pub is_extension_refl : (l : List PlainEntry) → IsExtension l l
 is_extension_refl l = ([], sym (append-nil l))
 
-is_extension_trans : (a b c : List PlainEntry) → IsExtension c b → IsExtension b a → IsExtension c a
+pub is_extension_trans : (a b c : List PlainEntry) → IsExtension c b → IsExtension b a → IsExtension c a
 is_extension_trans a b c h k = (k.0 ++ h.0, h.1 ∙ ap (λ l. l ++ h.0) k.1 ∙ append_assoc a k.0 h.0)
 
 -- ---- queues

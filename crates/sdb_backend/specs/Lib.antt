@@ -11,4 +11,5 @@ pub mod PassRuns
 pub mod RestorationModel
 pub mod UnsavedEntries
 pub mod laws
-pub mod ReadsInParts
+pub mod LooksInParts
+pub mod ReplaysInParts

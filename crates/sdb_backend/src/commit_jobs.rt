@@ -7,7 +7,7 @@ ghost use Rattle.sdb_desk.specs.Machine.{IsUnchanged};
 ghost use Rattle.sdb_desk.specs.ReplyView.{plain_reply};
 ghost use Rattle.sdb_submit.specs.Calls.{MachineStep, look_view};
 ghost use Rattle.sdb_submit.specs.Calls as call;
-ghost use Rattle.sdb_backend.specs.ReadsInParts.{IsLookPartOrError, CommitsIfCurrent};
+ghost use Rattle.sdb_backend.specs.LooksInParts.{IsLookPartOrError, CommitsIfCurrent};
 ghost use Rattle.sdb_backend.specs.UnsavedEntries.{unsaved_of, UnsavedAfterReply};
 
 use crate::shard_value::Held;

@@ -1,5 +1,5 @@
 //! The reads and queues of a shard as jobs under a lock.
-ghost use Rattle.std.specs.Prelude.{◌≡◌, [], Some, option_map};
+ghost use Rattle.std.specs.Prelude.{◌≡◌, [], option_map};
 ghost use Rattle.sdb_oplog.specs.Decide.{IsMade};
 ghost use Rattle.sdb_oplog.specs.Keys.{plain_key};
 ghost use Rattle.sdb_desk.specs.ShardView.{machine_of, logs_of, caches_of};
@@ -7,8 +7,7 @@ ghost use Rattle.sdb_desk.specs.View.{fetch_result_view, entries_view, subscribe
 ghost use Rattle.sdb_submit.specs.Calls.{MachineStep, copied_entries_view};
 ghost use Rattle.sdb_submit.specs.Calls as call;
 ghost use Rattle.sdb_value.specs.View.{value_of};
-ghost use Rattle.sdb_desk.specs.Machine.{IsUnchanged, version_at_moment};
-ghost use Rattle.sdb_backend.specs.ReadsInParts.{IsEarlierBaseOrNone};
+ghost use Rattle.sdb_desk.specs.Machine.{IsUnchanged};
 ghost use Rattle.sdb_backend.specs.ReplayBases.{IsDocumentAt, IsReplayBaseOrError, IsReplayBaseAtOrError, replay_base_view, replay_base_at_view};
 
 use crate::shard_value::Held;
@@ -68,7 +67,8 @@ impl<'a> Job<Held> for OpsBetweenJob<'a> {
     ghost precondition = { λ j n a. Unit {0} };
 
     ghost postcondition = { λ j n a b r. MachineStep n (machine_of a.shard) (plain_key j.key.now)
-        (call.ops_between j.from j.to) (copied_entries_view r) (machine_of b.shard) };
+        (call.ops_between j.from j.to) (copied_entries_view r) (machine_of b.shard)
+        × IsMade (logs_of a.shard (plain_key j.key.now)) };
 
     fn run(self, _number: u64, held: &mut Held) -> Result<Vec<Entry>, AllocError> {
         let Self { key, from, to } = self;
@@ -124,6 +124,7 @@ pub(crate) struct ReplayBaseAt {
 pub(crate) struct ReplayBaseAtMomentJob<'a> {
     pub(crate) key: &'a Key,
     pub(crate) moment: Moment,
+    pub(crate) max: u64,
 }
 
 impl<'a> Job<Held> for ReplayBaseAtMomentJob<'a> {
@@ -131,24 +132,22 @@ impl<'a> Job<Held> for ReplayBaseAtMomentJob<'a> {
 
     ghost precondition = { λ j n a. Unit {0} };
 
-    ghost postcondition = { λ j n a b r. IsReplayBaseAtOrError (machine_of a.shard) (plain_key j.key.now) j.moment
+    ghost postcondition = { λ j n a b r. IsReplayBaseAtOrError (machine_of a.shard) (plain_key j.key.now) j.moment j.max
         (replay_base_at_view r)
         × IsUnchanged (machine_of a.shard) (machine_of b.shard) };
 
     fn run(self, _number: u64, held: &mut Held) -> Result<ReplayBaseAt, Code> {
-        let Self { key, moment } = self;
+        let Self { key, moment, max } = self;
         let version = held.shard.version_at(key, Some(moment));
-        let replay_start = held.shard.replay_base(key, version)?;
-        Ok(ReplayBaseAt {
-            version,
-            base: replay_start,
-        })
+        let base = held.shard.replay_base(key, version, max)?;
+        Ok(ReplayBaseAt { version, base })
     }
 }
 
 pub(crate) struct ReplayBaseJob<'a> {
     pub(crate) key: &'a Key,
     pub(crate) version: u64,
+    pub(crate) max: u64,
 }
 
 impl<'a> Job<Held> for ReplayBaseJob<'a> {
@@ -156,54 +155,13 @@ impl<'a> Job<Held> for ReplayBaseJob<'a> {
 
     ghost precondition = { λ j n a. Unit {0} };
 
-    ghost postcondition = { λ j n a b r. IsReplayBaseOrError (machine_of a.shard) (plain_key j.key.now) j.version
+    ghost postcondition = { λ j n a b r. IsReplayBaseOrError (machine_of a.shard) (plain_key j.key.now) j.version j.max
         (replay_base_view r)
         × IsUnchanged (machine_of a.shard) (machine_of b.shard) };
 
     fn run(self, _number: u64, held: &mut Held) -> Result<ReplayBase, Code> {
-        let Self { key, version } = self;
-        held.shard.replay_base(key, version)
-    }
-}
-
-// The replay base of an earlier version, `max` entries after the nearest cached snapshot.
-pub(crate) struct EarlierReplayBaseJob<'a> {
-    pub(crate) key: &'a Key,
-    pub(crate) version: u64,
-    pub(crate) max: u64,
-}
-
-impl<'a> Job<Held> for EarlierReplayBaseJob<'a> {
-    type Answer = Result<Option<ReplayBase>, AllocError>;
-
-    ghost precondition = { λ j n a. Unit {0} };
-
-    ghost postcondition = { λ j n a b r. IsEarlierBaseOrNone (logs_of a.shard (plain_key j.key.now)) j.version j.max r
-        × IsUnchanged (machine_of a.shard) (machine_of b.shard) };
-
-    fn run(self, _number: u64, held: &mut Held) -> Result<Option<ReplayBase>, AllocError> {
         let Self { key, version, max } = self;
-        held.shard.earlier_replay_base(key, version, max)
-    }
-}
-
-// The version at a moment.
-pub(crate) struct VersionAtJob<'a> {
-    pub(crate) key: &'a Key,
-    pub(crate) moment: Moment,
-}
-
-impl<'a> Job<Held> for VersionAtJob<'a> {
-    type Answer = u64;
-
-    ghost precondition = { λ j n a. Unit {0} };
-
-    ghost postcondition = { λ j n a b r. (r ≡ version_at_moment (logs_of a.shard (plain_key j.key.now)) (Some j.moment))
-        × IsUnchanged (machine_of a.shard) (machine_of b.shard) };
-
-    fn run(self, _number: u64, held: &mut Held) -> u64 {
-        let Self { key, moment } = self;
-        held.shard.version_at(key, Some(moment))
+        held.shard.replay_base(key, version, max)
     }
 }
 

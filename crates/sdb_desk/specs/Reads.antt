@@ -1,5 +1,5 @@
 -- The effect of a read by version on the snapshot cache.
-use Rattle.std.specs.Prelude.{◌≡◌, ℕ, ◌+◌, ◌<◌, ◌≤◌, List, length, take, drop, Option, Some, None, ◌⊎◌}
+use Rattle.std.specs.Prelude.{◌≡◌, ℕ, ◌+◌, ◌<◌, ◌≤◌, min, List, length, take, drop, Option, Some, None, ◌⊎◌}
 use Rattle.sdb_value.specs.Value.{Value}
 use Rattle.sdb_oplog.specs.Plain.{PlainEntry}
 use Rattle.sdb_oplog.specs.Snap.{document_of, snap_from}
@@ -32,16 +32,16 @@ IsReplayBase log v l =
     (v ≤ length log) × (l.entries ≡ drop l.version (take v log))
     × (snap_from l.snapshot l.entries ≡ Some (document_of (take v log)))
 
+-- a replay base of a version; if more than `max` entries are before it, of the version that the first `max` of them reach
+pub record IsReplayBaseUpTo (log : List PlainEntry) (v max : ℕ) (l : PlainReplayBase) : Type 0 where
+  pub within : v ≤ length log
+  pub before : l.version ≤ v
+  pub base : IsReplayBase log (min (l.version + max) v) l
+
 -- an older document starts with the nearest cached snapshot, the current one with itself
 abbrev pub IsCachedReplayBase : List PlainEntry → List Snapshot → ℕ → PlainReplayBase → Type 0
 IsCachedReplayBase log kept v l =
     ((length log ≤ v) × (l.version ≡ v)) ⊎ ((v < length log) × IsReplayStart (nearest v kept) l.version l.snapshot)
-
--- a replay base of an earlier version, `max` entries after the nearest cached snapshot
-pub record IsEarlierReplayBase (log : List PlainEntry) (kept : List Snapshot) (v max : ℕ) (l : PlainReplayBase) : Type 0 where
-  pub before : l.version + max < v
-  pub start : IsReplayStart (nearest v kept) l.version l.snapshot
-  pub base : IsReplayBase log (l.version + max) l
 
 -- the cache after the nearest snapshot was used
 abbrev pub CacheAfterUse : List PlainEntry → ℕ → List Snapshot → List Snapshot → Type 0

@@ -12,7 +12,7 @@ ghost use Rattle.sdb_snapcache.specs.CacheModel.{nearest, promote_nearest};
 ghost use Rattle.sdb_snapcache.specs.View.{plain_snapshot};
 ghost use Rattle.sdb_desk.specs.DocumentModel.{DocumentAfterStore, empty_document, IsReplayStart};
 ghost use Rattle.sdb_snapcache.specs.SnapInvariant.{AreSnapsOf};
-ghost use Rattle.sdb_desk.specs.Reads.{CacheAfterRead, CacheAfterOffer, IsReplayBase, IsCachedReplayBase, IsEarlierReplayBase, CacheAfterUse};
+ghost use Rattle.sdb_desk.specs.Reads.{CacheAfterRead, CacheAfterOffer, IsReplayBaseUpTo, IsCachedReplayBase, CacheAfterUse};
 
 use crate::replay_base::ReplayBase;
 use crate::work::Look;
@@ -161,19 +161,19 @@ impl Document {
         Ok(snapshot)
     }
 
-    // Returns the replay base of a version: the nearest cached snapshot and the entries after it.
+    // Returns the replay base of a version: the nearest cached snapshot and at most `max` entries
+    // after it.
     pub(crate) fn replay_base(
         &mut self,
         alloc: Global,
         version: u64,
+        max: u64,
     ) -> Result<ReplayBase, AllocError>
         requires { version ≤ length self.old.log }
         ensures replay_base { IfOk result
-            (λ l. IsReplayBase self.old.log version (plain_replay_base l)) }
+            (λ l. IsReplayBaseUpTo self.old.log version max (plain_replay_base l)) }
         ensures cached_base { IfOk result
             (λ l. IsCachedReplayBase self.old.log self.old.cache version (plain_replay_base l)) }
-        ensures current_version { IfOk result
-            (λ l. version ≡ length self.old.log → l.entries.items ≡ []) }
         ensures memory { OnErr result (0 < version) }
         ensures log { self.new.log ≡ self.old.log }
         ensures cache { CacheAfterUse self.old.log version self.old.cache self.new.cache }
@@ -186,41 +186,13 @@ impl Document {
             });
         }
         let (from, snapshot) = self.nearest(alloc, version)?;
-        let between = (version - from) as usize;
-        let entries = clone_entries(alloc, &self.log().entries_from(from)[..between])?;
+        let count = (version - from).min(max) as usize;
+        let entries = clone_entries(alloc, &self.log().entries_from(from)[..count])?;
         Ok(ReplayBase {
             version: from,
             snapshot,
             entries,
         })
-    }
-
-    // Returns the replay base of an earlier version: the nearest cached snapshot up to this version,
-    // and `max` entries after it. Returns `None` if there aren't more than `max` between them.
-    pub(crate) fn earlier_replay_base(
-        &mut self,
-        alloc: Global,
-        version: u64,
-        max: u64,
-    ) -> Result<Option<ReplayBase>, AllocError>
-        ensures earlier { IfOk result (λ o. IfSome o
-            (λ l. IsEarlierReplayBase self.old.log self.old.cache version max (plain_replay_base l))) }
-        ensures log { self.new.log ≡ self.old.log }
-        ensures cache { CacheAfterUse self.old.log version self.old.cache self.new.cache }
-    {
-        if self.log().len() <= version {
-            return Ok(None);
-        }
-        let (start, snapshot) = self.nearest(alloc, version)?;
-        if version - start <= max {
-            return Ok(None);
-        }
-        let entries = clone_entries(alloc, &self.log().entries_from(start)[..max as usize])?;
-        Ok(Some(ReplayBase {
-            version: start,
-            snapshot,
-            entries,
-        }))
     }
 
     // Returns the nearest cached snapshot up to this version, or the absent document at version 0.

@@ -12,7 +12,7 @@ ghost use Rattle.sdb_subscribe.specs.Ring.{without_rings, AreRingsOfLog, ArePush
 ghost use Rattle.sdb_desk.specs.DocumentModel.{DocumentAfterStore, empty_document};
 ghost use Rattle.sdb_oplog.specs.DecidedLog.{WillStore};
 ghost use Rattle.sdb_desk.specs.Machine.{is_nonempty};
-ghost use Rattle.sdb_desk.specs.Reads.{CacheAfterRead, CacheAfterOffer, IsReplayBase, IsCachedReplayBase, IsEarlierReplayBase, CacheAfterUse};
+ghost use Rattle.sdb_desk.specs.Reads.{CacheAfterRead, CacheAfterOffer, IsReplayBaseUpTo, IsCachedReplayBase, CacheAfterUse};
 ghost use Rattle.sdb_desk.specs.SlotModel.{empty_slot, slot_with_cache, slot_with_queues, slot_with_open_queues, document_or_empty};
 ghost use Rattle.sdb_desk.specs.StateChanges.{SlotAfterStore, OnlySlotCacheChanges};
 ghost use Rattle.sdb_desk.specs.View.{plain_replay_base};
@@ -131,46 +131,26 @@ impl DocumentSlot {
         }
     }
 
-    // Returns the replay base of a version.
+    // Returns the replay base of a version, with at most `max` entries.
     pub(crate) fn replay_base(
         &mut self,
         alloc: Global,
         version: u64,
+        max: u64,
     ) -> Result<ReplayBase, AllocError>
         requires { version ≤ length self.old.document.log }
         ensures replay_base { IfOk result
-            (λ l. IsReplayBase self.old.document.log version (plain_replay_base l)) }
+            (λ l. IsReplayBaseUpTo self.old.document.log version max (plain_replay_base l)) }
         ensures cached_base { IfOk result
             (λ l. IsCachedReplayBase self.old.document.log self.old.document.cache version
             (plain_replay_base l)) }
-        ensures current_version { IfOk result
-            (λ l. version ≡ length self.old.document.log → l.entries.items ≡ []) }
         ensures memory { OnErr result (0 < version) }
         ensures cache { OnlySlotCacheChanges (CacheAfterUse self.old.document.log version)
             self.old self.new }
     {
         match &mut self.document {
-            Some(document) => document.replay_base(alloc, version),
+            Some(document) => document.replay_base(alloc, version, max),
             None => Ok(empty_replay_base(alloc)),
-        }
-    }
-
-    // Returns the replay base of an earlier version, or `None` if at most `max` entries are replayed.
-    pub(crate) fn earlier_replay_base(
-        &mut self,
-        alloc: Global,
-        version: u64,
-        max: u64,
-    ) -> Result<Option<ReplayBase>, AllocError>
-        ensures earlier { IfOk result (λ o. IfSome o
-            (λ l. IsEarlierReplayBase self.old.document.log self.old.document.cache version max
-            (plain_replay_base l))) }
-        ensures cache { OnlySlotCacheChanges (CacheAfterUse self.old.document.log version)
-            self.old self.new }
-    {
-        match &mut self.document {
-            Some(document) => document.earlier_replay_base(alloc, version, max),
-            None => Ok(None),
         }
     }
 

@@ -7,7 +7,7 @@ ghost use Rattle.sdb_oplog.specs.declared.codes.Code.TheVariants.{E10};
 ghost use Rattle.sdb_value.specs.Uniqueness.{is_frozen};
 ghost use Rattle.sdb_value.specs.View.{value_of};
 ghost use Rattle.sdb_desk.specs.ShardView.{cache_at, log_at, state_of};
-ghost use Rattle.sdb_desk.specs.Reads.{IsReplayBase, IsCachedReplayBase, IsEarlierReplayBase};
+ghost use Rattle.sdb_desk.specs.Reads.{IsReplayBaseUpTo, IsCachedReplayBase};
 ghost use Rattle.sdb_desk.specs.Machine.{fetch_result, operations_from, operations_between, snapshot_at, is_nonempty, read_has_document, read_has_version, version_at_moment, fetch_at_moment, ReadOrOutOfMemory};
 ghost use Rattle.sdb_desk.specs.View.{plain_replay_base, fetch_result_view, entries_view};
 ghost use Rattle.sdb_desk.specs.ShardState.{with_cache};
@@ -90,6 +90,7 @@ impl Shard {
             (λ es. es.items ≡ operations_between (log_at self.now key.now) from to) }
         ensures memory { OnErr result
             (is_nonempty (operations_between (log_at self.now key.now) from to) ≡ true) }
+        ensures is_made { IsMade (log_at self.now key.now) }
     {
         match self.find(key) {
             Some(document) => clone_entries(self.alloc, entries_between(document.log(), from, to)),
@@ -187,19 +188,18 @@ impl Shard {
     }
 
     /// Returns the replay base of a version: the nearest cached snapshot and the entries after it,
-    /// each as a shared pointer, or the current document.
+    /// each as a shared pointer, or the current document. If there are more than `max` entries, it
+    /// has the first `max`, and its replay is the document at the version that they reach.
     ///
     /// # Errors
     ///
     /// [`Code::E4`] if the version is above the current one, [`Code::E10`] if an allocation fails
     /// at a version above 0. No log and no queue changes.
-    pub fn replay_base(&mut self, key: &Key, version: u64) -> Result<ReplayBase, Code>
-        ensures replay_base { IfOk result (λ l. IsReplayBase (log_at self.old key.now) version
+    pub fn replay_base(&mut self, key: &Key, version: u64, max: u64) -> Result<ReplayBase, Code>
+        ensures replay_base { IfOk result (λ l. IsReplayBaseUpTo (log_at self.old key.now) version max
             (plain_replay_base l)) }
         ensures cached_base { IfOk result (λ l. IsCachedReplayBase (log_at self.old key.now)
             (cache_at self.old key.now) version (plain_replay_base l)) }
-        ensures current_version { IfOk result
-            (λ l. version ≡ length (log_at self.old key.now) → l.entries.items ≡ []) }
         ensures err { IfErr result (λ code. ReadOrOutOfMemory read_has_version (Err code)
             (snapshot_at (log_at self.old key.now) (Some version))) }
         ensures cache { StateAfterUse (plain_key key.now) version
@@ -208,53 +208,28 @@ impl Shard {
         if version > self.version(key) {
             return Err(Code::E4);
         }
-        Ok(self.replay_base_in_range(key, version)?)
+        Ok(self.replay_base_in_range(key, version, max)?)
     }
 
     // Returns the replay base of a version up to the current one.
-    fn replay_base_in_range(&mut self, key: &Key, version: u64) -> Result<ReplayBase, AllocError>
+    fn replay_base_in_range(
+        &mut self,
+        key: &Key,
+        version: u64,
+        max: u64,
+    ) -> Result<ReplayBase, AllocError>
         requires { version ≤ length (log_at self.old key.now) }
-        ensures replay_base { IfOk result (λ l. IsReplayBase (log_at self.old key.now) version
+        ensures replay_base { IfOk result (λ l. IsReplayBaseUpTo (log_at self.old key.now) version max
             (plain_replay_base l)) }
         ensures cached_base { IfOk result (λ l. IsCachedReplayBase (log_at self.old key.now)
             (cache_at self.old key.now) version (plain_replay_base l)) }
-        ensures current_version { IfOk result
-            (λ l. version ≡ length (log_at self.old key.now) → l.entries.items ≡ []) }
         ensures memory { OnErr result (0 < version) }
         ensures cache { StateAfterUse (plain_key key.now) version
             (state_of self.old) (state_of self.new) }
     {
         match self.slots.get_mut(key) {
-            Some(slot) => slot.replay_base(self.alloc, version),
+            Some(slot) => slot.replay_base(self.alloc, version, max),
             None => Ok(empty_replay_base(self.alloc)),
-        }
-    }
-
-    /// Returns the replay base of an earlier version, whose replay needs `max` entries: the nearest
-    /// cached snapshot up to this version, and the entries after it. Returns `None` if the replay
-    /// base of this version has at most `max` entries, or the version isn't below the current one.
-    ///
-    /// A caller that replays it and [offers](Shard::offer) the document has fewer entries left to
-    /// copy at once.
-    ///
-    /// # Errors
-    ///
-    /// [`AllocError`] if an allocation fails. No log and no queue changes.
-    pub fn earlier_replay_base(
-        &mut self,
-        key: &Key,
-        version: u64,
-        max: u64,
-    ) -> Result<Option<ReplayBase>, AllocError>
-        ensures earlier { IfOk result (λ o. IfSome o
-            (λ l. IsEarlierReplayBase (log_at self.old key.now) (cache_at self.old key.now) version max
-            (plain_replay_base l))) }
-        ensures cache { StateAfterUse (plain_key key.now) version
-            (state_of self.old) (state_of self.new) }
-    {
-        match self.slots.get_mut(key) {
-            Some(slot) => slot.earlier_replay_base(self.alloc, version, max),
-            None => Ok(None),
         }
     }
 

@@ -209,6 +209,77 @@ fn many_entries_are_copied_in_parts(rt: HostRuntime) {
     );
 }
 
+// Submits this content at the current version, at a moment with the seq as milliseconds.
+fn store<R: Wait + Drop>(
+    rt: &impl Abort,
+    alloc: Global,
+    backend: &Backend<R>,
+    pass: &mut Pass,
+    key: &Key,
+    seq: u64,
+    content: Content,
+)
+    requires { IsPassOfBackend pass.old backend.now }
+    ensures { IsPassOfBackend pass.new backend.now }
+{
+    let submission = submission_of_pass(rt, alloc, pass, seq, None, content);
+    let now = Moment::new(seq).expect(rt, "a moment");
+    let reply = submit(alloc, backend, pass, key, submission, now, &NoGate);
+    assert!(rt; stored_version(&reply).is_some());
+}
+
+// Returns the number of the document at a version, if it has one.
+fn counter_at<R: Wait + Drop>(
+    rt: &impl Abort,
+    backend: &Backend<R>,
+    pass: &mut Pass,
+    key: &Key,
+    version: u64,
+) -> Option<i64>
+    requires { IsPassOfBackend pass.old backend.now }
+    ensures { IsPassOfBackend pass.new backend.now }
+{
+    let fetched = backend.snapshot_at(pass, key, Some(version));
+    counter_of(fetched.expect(rt, "out of memory").snapshot.as_ref())
+}
+
+// An absent document is never cached. A part of a replay may end at its version, here at 8,192.
+#[test]
+fn a_replay_continues_from_an_absent_document(rt: HostRuntime) {
+    let alloc = rt.alloc();
+    let TestBackend {
+        backend,
+        first: mut pass,
+        ..
+    } = open_backend(&rt, alloc, rt);
+    let key = key(&rt, alloc, "1");
+    create(&rt, alloc, &backend, &mut pass, &key);
+    add_many(&rt, alloc, &backend, &mut pass, &key, 8_191);
+    store(
+        &rt,
+        alloc,
+        &backend,
+        &mut pass,
+        &key,
+        8_192,
+        Content::delete(),
+    );
+    let created = create_counter(&rt, alloc);
+    store(&rt, alloc, &backend, &mut pass, &key, 8_193, created);
+    add_at(&rt, alloc, &backend, &mut pass, &key, 8_194, 8_194);
+    add_at(&rt, alloc, &backend, &mut pass, &key, 8_195, 8_195);
+    let old = counter_at(&rt, &backend, &mut pass, &key, 8_194);
+    let absent = counter_at(&rt, &backend, &mut pass, &key, 8_192);
+    let first = counter_at(&rt, &backend, &mut pass, &key, 8_191);
+    let moment = Moment::new(8_193);
+    assert!(rt;
+        old == Some(1)
+            && absent == None
+            && first == Some(8_190)
+            && fetch_at_moment(&rt, &backend, &mut pass, &key, moment) == (8_193, Some(0))
+    );
+}
+
 // A gate that records the number of the last try. It blocks the first try until another submission
 // is answered, with a bounded wait.
 #[derive(Drop)]

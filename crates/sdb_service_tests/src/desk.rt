@@ -255,7 +255,7 @@ fn number_at(rt: &impl Abort, document: &mut TestDocument, version: u64) -> Opti
 fn replay_start(rt: &impl Abort, document: &mut TestDocument, version: u64) -> (u64, usize) {
     let base = document
         .shard
-        .replay_base(&document.key, version)
+        .replay_base(&document.key, version, u64::MAX)
         .expect(rt, "a version");
     (base.version, base.entries.len())
 }
@@ -264,7 +264,7 @@ fn replay_start(rt: &impl Abort, document: &mut TestDocument, version: u64) -> (
 fn replay_number(rt: &impl Abort, document: &mut TestDocument, version: u64) -> Option<i64> {
     let base = document
         .shard
-        .replay_base(&document.key, version)
+        .replay_base(&document.key, version, u64::MAX)
         .expect(rt, "a version");
     let snapshot = base.replay(document.alloc).expect(rt, "out of memory");
     number_of(snapshot.as_ref())
@@ -282,38 +282,33 @@ fn a_replay_starts_at_the_nearest_cached_version(rt: HostRuntime) {
             && replay_start(&rt, &mut document, 10) == (8, 2)
             && replay_start(&rt, &mut document, 8) == (8, 0)
             && replay_number(&rt, &mut document, 10) == Some(9)
-            && matches!(document.shard.replay_base(&document.key, 13), Err(Code::E4))
+            && matches!(
+                document.shard.replay_base(&document.key, 13, 1),
+                Err(Code::E4)
+            )
     );
 }
 
-// Returns the version at which the replay of an earlier version starts, and its number of entries.
-fn earlier_start(
-    rt: &impl Abort,
-    document: &mut TestDocument,
-    version: u64,
-    max: u64,
-) -> Option<(u64, usize)> {
+// Returns the version at which a replay with at most three entries starts, and their number.
+fn short_start(rt: &impl Abort, document: &mut TestDocument, version: u64) -> (u64, usize) {
     let base = document
         .shard
-        .earlier_replay_base(&document.key, version, max)
-        .expect(rt, "out of memory");
-    match base {
-        Some(base) => Some((base.version, base.entries.len())),
-        None => None,
-    }
+        .replay_base(&document.key, version, 3)
+        .expect(rt, "a version");
+    (base.version, base.entries.len())
 }
 
 #[test]
-fn a_replay_may_begin_with_an_earlier_version(rt: HostRuntime) {
+fn a_replay_base_has_a_limit_of_entries(rt: HostRuntime) {
     let mut document = TestDocument::new(&rt, rt.alloc());
     document.store_edits(&rt, 1, 11);
     assert!(rt;
-        earlier_start(&rt, &mut document, 8, 3) == Some((0, 3))
+        short_start(&rt, &mut document, 8) == (0, 3)
             && number_at(&rt, &mut document, 3) == Some(2)
-            && earlier_start(&rt, &mut document, 8, 3) == Some((3, 3))
-            && earlier_start(&rt, &mut document, 6, 3) == None
-            && earlier_start(&rt, &mut document, 12, 3) == None
-            && earlier_start(&rt, &mut document, 13, 3) == None
+            && short_start(&rt, &mut document, 8) == (3, 3)
+            && short_start(&rt, &mut document, 6) == (3, 3)
+            && short_start(&rt, &mut document, 5) == (3, 2)
+            && short_start(&rt, &mut document, 12) == (12, 0)
     );
 }
 

@@ -257,7 +257,7 @@ fn replay_with_retry(rt: &impl Abort, document: &mut TestDocument) -> Option<usi
 }
 
 fn replay(document: &mut TestDocument) -> Result<Option<usize>, Code> {
-    let base = document.shard.replay_base(&document.key, 3)?;
+    let base = document.shard.replay_base(&document.key, 3, 8)?;
     let snapshot = base.replay(document.alloc)?;
     Ok(count_items(snapshot.as_ref()))
 }

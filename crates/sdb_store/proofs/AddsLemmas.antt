@@ -6,6 +6,7 @@ use Rattle.sdb_growlock.specs.LockRule.{ForEach}
 use Rattle.sdb_backend.specs.UnsavedEntries.{PlainEntryAt, plain_entry_at}
 use Rattle.sdb_backend.specs.declared.backend.Backend.{Backend}
 use Rattle.sdb_backend.specs.declared.unsaved.EntryAt.{EntryAt}
+use Rattle.sdb_dump.specs.ValueLimits.{IsSafeInteger}
 use Rattle.sdb_journal.specs.JournalText.{number_line}
 use Rattle.sdb_journal.specs.StoreMachine.{IsIn}
 use Rattle.sdb_store.specs.SaverModel.{unwritten_lines, places_left, reserved_number, HasBlockLine, IsLineAt, IsJournalLine, is_block, is_entry, HasLineAt, TakesWithLines, AddsLines, CommitsRound}
@@ -83,13 +84,13 @@ module _ {R : Type 0} (b : Backend R) where
           inr (subst (IsIn x) (sym (ap₂ (λ (n : ℕ) (v : Vec EntryAt Global). map plain_entry_at (drop n v.items)) (next ∙ one_more s.position) taken)) i)
 
   pub adds_block : (s t : Saver) (line : List ℕ) → unwritten_lines t ≡ unwritten_lines s ++ line ∷ []
-      → line ≡ number_line t.group_reserved → places_left t ≡ places_left s → reserved_number t ≡ reserved_number s
+      → line ≡ number_line t.group_reserved → IsSafeInteger t.group_reserved → places_left t ≡ places_left s → reserved_number t ≡ reserved_number s
       → AddsLines b s t
-  adds_block s t line lines is places same =
+  adds_block s t line lines is safe places same =
       record {
         more = line ∷ [];
         lines = lines;
-        each = (is_block t.group_reserved is, tt);
+        each = (is_block t.group_reserved safe is, tt);
         left = λ e i. inr (subst (IsIn e) (sym places) i);
         reserved = same;
         block = λ h. inr (subst (λ x. IsIn x (unwritten_lines t)) is (subst (IsIn line) (sym lines) (last_in line (unwritten_lines s))));

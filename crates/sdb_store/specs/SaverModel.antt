@@ -5,6 +5,7 @@ use Rattle.sdb_growlock.specs.LockRule.{ForEach}
 use Rattle.sdb_oplog.specs.Plain.{PlainEntry}
 use Rattle.sdb_desk.specs.ShardView.{logs_of}
 use Rattle.sdb_dump.specs.DumpText.{entry_line}
+use Rattle.sdb_dump.specs.ValueLimits.{IsSafeInteger}
 use Rattle.sdb_dump.specs.declared.version.DumpVersion.TheVariants.{Two}
 use Rattle.sdb_backend.specs.PassModel.{IsPassOfBackend, PassHasSeen}
 use Rattle.sdb_backend.specs.UnsavedEntries.{PlainEntryAt, plain_entry_at, TakesUnsaved}
@@ -50,9 +51,9 @@ module _ {R : Type 0} (b : Backend R) where
     pub stored : slice_get (logs_of history.shard e.key) e.version ≡ Some entry
     pub line_is : line ≡ entry_line Two (record { key = e.key; entry = entry })
 
-  -- the line of a block of numbers, or of an entry
+  -- the line of a block of numbers of 53 bits, or of an entry
   pub data IsJournalLine (line : List ℕ) : Type 0 where
-    is_block : (n : ℕ) → line ≡ number_line n → IsJournalLine line
+    is_block : (n : ℕ) → IsSafeInteger n → line ≡ number_line n → IsJournalLine line
     is_entry : (e : PlainEntryAt) → IsLineAt e line → IsJournalLine line
 
   -- one of the lines is that of the entry at a place

@@ -1,5 +1,5 @@
 //! Taking stored entries from a backend, and writing their lines.
-ghost use Rattle.std.specs.Prelude.{◌≡◌, ◌⊎◌, ◌+◌, ◌<◌, ◌++◌, ◌∷◌, [], List, ℕ, IfOk, OnOk, OnErr, length, slice_get, Some};
+ghost use Rattle.std.specs.Prelude.{◌≡◌, ◌⊎◌, ◌+◌, ◌<◌, ◌≤◌, ◌++◌, ◌∷◌, [], List, ℕ, IfOk, OnOk, OnErr, length, slice_get, Some};
 ghost use Rattle.sdb_journal.specs.JournalText.{number_line};
 ghost use Rattle.sdb_journal.specs.StoreMachine.{IsIn};
 ghost use Rattle.sdb_backend.specs.PassModel.{IsPassOfBackend};
@@ -10,6 +10,7 @@ use crate::line_writer::{LineWriter, WriteFault};
 use sdb_backend::{Backend, EntryAt, Pass, SHARD_COUNT};
 use sdb_journal::{entry_line, number_line};
 use sdb_submit::Desk;
+use sdb_value::MAX;
 use std::alloc::{AllocError, Global};
 use std::sync::Wait;
 use thiserror::Error;
@@ -32,6 +33,9 @@ pub enum SaveFault {
     /// The list of stored entries isn't complete.
     #[error("the list of stored entries isn't complete")]
     Incomplete,
+    /// No number is left for a session.
+    #[error("no number is left for a session")]
+    OutOfNumbers,
 }
 
 impl SaveFault {
@@ -97,12 +101,13 @@ impl Saver {
     }
 
     /// Takes all listed entries, and writes their lines as one group; also a block of numbers, if
-    /// numbers up to `number` aren't reserved.
+    /// numbers up to `number` aren't reserved. A journal has numbers up to 2^53 - 1.
     ///
     /// # Errors
     ///
     /// [`SaveFault::Retry`], [`SaveFault::Closed`] if the writer fails, [`SaveFault::OutOfMemory`] if
-    /// an allocation fails, [`SaveFault::Incomplete`] if the backend's list isn't complete.
+    /// an allocation fails, [`SaveFault::Incomplete`] if the backend's list isn't complete, and
+    /// [`SaveFault::OutOfNumbers`] if a journal can't have the number.
     pub fn save_round<R: Wait + Drop, W: LineWriter>(
         &mut self,
         backend: &Backend<R>,
@@ -114,7 +119,8 @@ impl Saver {
         ensures committed { W.trusts writer.new → OnOk result
             (CommitsRound backend.now W.has_lines self.old self.new writer.old writer.new) }
         ensures kept_on_err { OnErr result (AddsLines backend.now self.old self.new) }
-        ensures block { HasBlockLine self.old → HasBlockLine self.new }
+        ensures block { HasBlockLine self.old → HasBlockLine self.new
+            × OnOk result (number ≤ reserved_number self.new) }
     {
         self.add_block(backend, number)?;
         self.add_entries(backend)?;
@@ -125,11 +131,15 @@ impl Saver {
     fn add_block<R>(&mut self, backend: &Backend<R>, number: u64) -> Result<(), SaveFault>
         ensures pass { saver_pass self.new ≡ saver_pass self.old }
         ensures added { AddsLines backend.now self.old self.new }
+        ensures reserved { OnOk result (number ≤ self.new.group_reserved) }
     {
         if number <= self.group_reserved {
             return Ok(());
         }
-        let reserved = number.saturating_add(BLOCK_SIZE - 1);
+        if number > MAX {
+            return Err(SaveFault::OutOfNumbers);
+        }
+        let reserved = number.saturating_add(BLOCK_SIZE - 1).min(MAX);
         let line = number_line(self.alloc, reserved)?;
         push_line(&mut self.group, line)?;
         self.group_reserved = reserved;

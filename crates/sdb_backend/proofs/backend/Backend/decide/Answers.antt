@@ -6,9 +6,9 @@ use Rattle.sdb_desk.specs.View.{plain_outcome, outcome_of_decision}
 use Rattle.sdb_submit.specs.Calls.{commit}
 use Rattle.sdb_submit.specs.laws.SubmitLaws.{moved_is_look}
 use Rattle.sdb_striped_lock.specs.laws.SeatLaws.{have_seen_unique}
-use Rattle.sdb_backend.specs.ReadsInParts.{HasGrown}
+use Rattle.sdb_backend.specs.LooksInParts.{HasGrown}
 use Rattle.sdb_backend.specs.declared.shard_value.Held.{Held}
-use Rattle.sdb_backend.proofs.PartialReadLemmas.{continues_after_run}
+use Rattle.sdb_backend.proofs.LookPartLemmas.{continues_after_run}
 use Rattle.sdb_backend.proofs.SeenLemmas.{is_look_of_extension, map_moved}
 use Rattle.sdb_backend.proofs.StepLemmas.{run_at_same_history}
 use Rattle.sdb_backend.proofs.backend.Backend.decide.Goals as goal

@@ -7,9 +7,9 @@ use Rattle.sdb_desk.specs.Machine.{PlainAttempt, decided}
 use Rattle.sdb_desk.specs.View.{plain_look}
 use Rattle.sdb_submit.specs.Calls.{look, commit}
 use Rattle.sdb_backend.specs.CallAnswers.{AnsweredAtExtension}
-use Rattle.sdb_backend.specs.ReadsInParts.{KnowsFirstMissed, IsLookOutdatedFor}
+use Rattle.sdb_backend.specs.LooksInParts.{KnowsFirstMissed, IsLookOutdatedFor}
 use Rattle.sdb_backend.specs.declared.pass.Pass.{Pass}
-use Rattle.sdb_backend.proofs.PartialReadLemmas.{knows_of_outdated, moved_by_look, refused_by_look}
+use Rattle.sdb_backend.proofs.LookPartLemmas.{knows_of_outdated, moved_by_look, refused_by_look}
 use Rattle.sdb_backend.proofs.backend.Backend.look_again.Goals as goal
 
 knows_clones : (p : Pass) (k : PlainKey) (a : PlainAttempt) (s : PlainSubmission) (es : List PlainEntry) → s ≡ a.submission → IsLookOutdatedFor p k a

@@ -12,8 +12,8 @@ use Rattle.sdb_desk.specs.declared.work.LookPart.TheVariants.{Entries}
 use Rattle.sdb_desk.specs.laws.LookLaws.{first_missed_with_part, look_allocates_for_first}
 use Rattle.sdb_submit.specs.Calls.{look, look_view}
 use Rattle.sdb_backend.specs.CallAnswers.{AnsweredAtExtension}
-use Rattle.sdb_backend.specs.ReadsInParts.{KnowsFirstMissed}
-use Rattle.sdb_backend.proofs.PartialReadLemmas.{continues_after_run, first_missed_at_history, knows_after_run, look_allocates_if_more, if_err_from_some, look_of_last, look_failed, look_answered, look_seen}
+use Rattle.sdb_backend.specs.LooksInParts.{KnowsFirstMissed}
+use Rattle.sdb_backend.proofs.LookPartLemmas.{continues_after_run, first_missed_at_history, knows_after_run, look_allocates_if_more, if_err_from_some, look_of_last, look_failed, look_answered, look_seen}
 use Rattle.sdb_backend.proofs.SeenLemmas.{look_result_is_look, map_ok}
 use Rattle.sdb_backend.proofs.backend.Backend.look_from.Goals as goal
 

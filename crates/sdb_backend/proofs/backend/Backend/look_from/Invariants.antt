@@ -1,6 +1,7 @@
 use Rattle.sdb_oplog.specs.Keys.{plain_key}
 use Rattle.sdb_backend.specs.PassModel.{IsPassOfBackend}
-use Rattle.sdb_backend.specs.ReadsInParts.{ContinuesAs, KnowsFirstMissed}
+use Rattle.sdb_backend.specs.LooksInParts.{KnowsFirstMissed}
+use Rattle.sdb_backend.proofs.LookPartLemmas.{ContinuesAs}
 use Rattle.sdb_backend.proofs.backend.Backend.look_from.Given as goal
 
 abbrev pub invariant-loop : goal.invariant-loop

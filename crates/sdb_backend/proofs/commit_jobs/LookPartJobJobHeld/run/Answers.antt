@@ -6,7 +6,7 @@ use Rattle.sdb_desk.specs.Looks.{IsLookPart}
 use Rattle.sdb_desk.specs.Machine.{look_allocates}
 use Rattle.sdb_desk.specs.ShardView.{logs_of}
 use Rattle.sdb_desk.specs.declared.work.LookPart.{LookPart}
-use Rattle.sdb_backend.specs.ReadsInParts.{IsLookPartOrError}
+use Rattle.sdb_backend.specs.LooksInParts.{IsLookPartOrError}
 use Rattle.sdb_backend.proofs.commit_jobs.LookPartJobJobHeld.run.Goals as goal
 
 part_or_error : (log : List PlainEntry) (s : PlainSubmission) (known max : ℕ) (r : Result LookPart AllocError) → IfOk r (IsLookPart log s known max)

@@ -1,7 +1,7 @@
 use Rattle.std.proofs.Common.{◌≡◌, List, [], rules, refl, sym, subst}
 use Rattle.sdb_oplog.specs.Keys.{plain_key}
 use Rattle.sdb_oplog.specs.Plain.{PlainEntry}
-use Rattle.sdb_backend.specs.ReadsInParts.{KnowsFirstMissed}
+use Rattle.sdb_backend.specs.LooksInParts.{KnowsFirstMissed}
 use Rattle.sdb_backend.proofs.desk.BackendDesk.look.Goals as goal
 
 pub look_from-requires-clause-missed : goal.look_from-requires-clause-missed

@@ -1,28 +1,19 @@
--- Reads whose entries are copied in parts, each at a history of its own.
-use Rattle.std.specs.Prelude.{◌≡◌, ◌≢◌, ℕ, ◌+◌, ◌<◌, List, true, length, Option, Some, None, Result, Ok, Err, ⊤}
+-- Looks whose missed entries are copied in parts, each at a history of its own.
+use Rattle.std.specs.Prelude.{◌≡◌, ◌≢◌, ℕ, List, true, length, Option, Some, None, Result, Ok, Err}
 use Rattle.std.specs.declared.alloc.AllocError.{AllocError}
 use Rattle.sdb_oplog.specs.Keys.{PlainKey}
 use Rattle.sdb_oplog.specs.Plain.{PlainEntry, PlainSubmission}
 use Rattle.sdb_desk.specs.Looks.{IsLook, IsLookPart, AreFirstMissed}
 use Rattle.sdb_desk.specs.Machine.{PlainAttempt, IsUnchanged, look_allocates}
 use Rattle.sdb_desk.specs.ShardView.{machine_of, logs_of}
-use Rattle.sdb_desk.specs.Reads.{IsReplayBase}
-use Rattle.sdb_desk.specs.View.{outcome_of_decision, plain_replay_base}
-use Rattle.sdb_desk.specs.declared.replay_base.ReplayBase.{ReplayBase}
+use Rattle.sdb_desk.specs.View.{outcome_of_decision}
 use Rattle.sdb_desk.specs.declared.shard.CommitDecision.{CommitDecision}
 use Rattle.sdb_desk.specs.declared.work.LookPart.{LookPart}
-use Rattle.sdb_submit.specs.Calls.{PlainCall, commit, CallAnswer, MachineStep}
-use Rattle.sdb_backend.specs.CallAnswers.{AnsweredAtExtension}
+use Rattle.sdb_submit.specs.Calls.{commit, MachineStep}
 use Rattle.sdb_backend.specs.PassModel.{PassHasSeen}
 use Rattle.sdb_backend.specs.UnsavedEntries.{unsaved_of, UnsavedAfterOutcome}
 use Rattle.sdb_backend.specs.declared.pass.Pass.{Pass}
 use Rattle.sdb_backend.specs.declared.shard_value.Held.{Held}
-
--- the pass has made calls that changed nothing: an answer to the later pass is one to the earlier pass
-abbrev pub ContinuesAs : PlainKey → Pass → Pass → Type 0
-ContinuesAs k p q = (c : PlainCall) (a : CallAnswer c) (r : Pass) → AnsweredAtExtension k c q a r → AnsweredAtExtension k c p a r
-
--- ---- looks
 
 -- a part of a look, or its allocation failed
 abbrev pub IsLookPartOrError : List PlainEntry → PlainSubmission → ℕ → ℕ → Result LookPart AllocError → Type 0
@@ -48,11 +39,3 @@ CommitsIfCurrent by k a now (Some d) old new =
     MachineStep by (machine_of old.shard) k (commit a now) (outcome_of_decision a d) (machine_of new.shard)
     × UnsavedAfterOutcome k (outcome_of_decision a d) (unsaved_of old) (unsaved_of new)
 CommitsIfCurrent by k a now None old new = HasGrown (logs_of old.shard k) a × IsUnchanged (machine_of old.shard) (machine_of new.shard)
-
--- ---- replays
-
--- the replay base of an earlier version, which `max` entries reach, if there is one and its allocation didn't fail
-abbrev pub IsEarlierBaseOrNone : List PlainEntry → ℕ → ℕ → Result (Option ReplayBase) AllocError → Type 0
-IsEarlierBaseOrNone log v max (Ok (Some l)) = (l.version + max < v) × IsReplayBase log (l.version + max) (plain_replay_base l)
-IsEarlierBaseOrNone log v max (Ok None) = ⊤
-IsEarlierBaseOrNone log v max (Err e) = ⊤

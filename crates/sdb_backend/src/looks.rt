@@ -1,31 +1,24 @@
-//! Reads whose entries are copied in parts: looks and replays.
-ghost use Rattle.std.specs.Prelude.{◌≡◌, ◌⊎◌, ℕ, ◌<◌, [], length, IfOk, OnErr, Some};
+//! Looks whose missed entries are copied in parts.
+ghost use Rattle.std.specs.Prelude.{◌≡◌, ◌⊎◌, ℕ, ◌<◌, [], length, IfOk, OnErr};
 ghost use Rattle.sdb_oplog.specs.Keys.{plain_key};
 ghost use Rattle.sdb_desk.specs.Machine.{look_before};
 ghost use Rattle.sdb_desk.specs.ReplyView.{plain_reply};
-ghost use Rattle.sdb_desk.specs.View.{plain_look, plain_outcome, outcome_of_decision, fetch_result_view};
-ghost use Rattle.sdb_submit.specs.Calls.{look, commit, commit_now, snapshot_at_time, snapshot, OnMoved, look_view};
+ghost use Rattle.sdb_desk.specs.View.{plain_look, plain_outcome, outcome_of_decision};
+ghost use Rattle.sdb_submit.specs.Calls.{look, commit, commit_now, OnMoved, look_view};
 ghost use Rattle.sdb_backend.specs.CallAnswers.{AnsweredAtExtension, IsLookSeenBy};
 ghost use Rattle.sdb_backend.specs.PassModel.{pass_number, IsPassOfBackend};
-ghost use Rattle.sdb_backend.specs.ReadsInParts.{ContinuesAs, KnowsFirstMissed, IsLookOutdatedFor};
+ghost use Rattle.sdb_backend.specs.LooksInParts.{KnowsFirstMissed, IsLookOutdatedFor};
 
 use crate::backend::Backend;
 use crate::commit_jobs::{CommitJob, CommitLastJob, LookJob, LookPartJob};
-use crate::jobs::{
-    EarlierReplayBaseJob, OfferJob, ReplayBaseAt, ReplayBaseAtMomentJob, ReplayBaseJob,
-    VersionAtJob,
-};
 use crate::pass::Pass;
-use sdb_desk::{CommitDecision, FetchResult, Look, LookPart, Outcome, ReplayBase, Reply, Work};
+use sdb_desk::{CommitDecision, Look, LookPart, Outcome, Reply, Work};
 use sdb_oplog::{Code, Entry, Key, Moment, Submission, clone_entries};
 use std::alloc::{AllocError, Global};
 use std::sync::Wait;
 
 // Greatest number of missed entries that are copied while a lock is held.
 const MAX_PART: usize = 1024;
-
-// Greatest number of entries that are copied for a replay while a lock is held.
-const MAX_REPLAY: u64 = 8192;
 
 // Number of parts after which a look copies the rest at once. No log is that long.
 const MAX_PARTS: u64 = 1 << 43;
@@ -122,118 +115,6 @@ impl<R: Wait + Drop> Backend<R> {
             Ok(look) => Outcome::Moved(look),
             Err(error) => Outcome::Decided(Reply::Refused(Code::from(error))),
         }
-    }
-
-    // Returns the document at a version.
-    pub(crate) fn snapshot_of(
-        &self,
-        pass: &mut Pass,
-        key: &Key,
-        version: u64,
-    ) -> Result<FetchResult, Code>
-        requires { IsPassOfBackend pass.old self.now }
-        ensures pass { IsPassOfBackend pass.new self.now }
-        ensures answered { AnsweredAtExtension (plain_key key.now) (snapshot (Some version)) pass.old
-            (fetch_result_view result) pass.new }
-    {
-        self.cache_before(pass, key, version);
-        self.replay_version(pass, key, version)
-    }
-
-    // Returns the version at a moment and the document at it.
-    pub(crate) fn snapshot_at_moment(
-        &self,
-        pass: &mut Pass,
-        key: &Key,
-        moment: Moment,
-    ) -> Result<FetchResult, Code>
-        requires { IsPassOfBackend pass.old self.now }
-        ensures pass { IsPassOfBackend pass.new self.now }
-        ensures answered { AnsweredAtExtension (plain_key key.now) (snapshot_at_time (Some moment)) pass.old
-            (fetch_result_view result) pass.new }
-    {
-        let version = self.run(pass, key, VersionAtJob { key, moment });
-        self.cache_before(pass, key, version);
-        self.replay_moment(pass, key, moment)
-    }
-
-    // Caches documents of earlier versions, until at most `MAX_REPLAY` entries are replayed for this
-    // one. Each is replayed without the lock. It stops if an allocation fails.
-    fn cache_before(&self, pass: &mut Pass, key: &Key, version: u64)
-        requires { IsPassOfBackend pass.old self.now }
-        ensures pass { IsPassOfBackend pass.new self.now }
-        ensures continues { ContinuesAs (plain_key key.now) pass.old pass.new }
-    {
-        for _ in 0..MAX_PARTS {
-            let job = EarlierReplayBaseJob {
-                key,
-                version,
-                max: MAX_REPLAY,
-            };
-            let Ok(Some(base)) = self.run(pass, key, job) else {
-                return;
-            };
-            let reached = base.version + MAX_REPLAY;
-            let Ok(snapshot) = base.replay(self.alloc) else {
-                return;
-            };
-            let offer = OfferJob {
-                key,
-                version: reached,
-                snapshot: &snapshot,
-            };
-            self.run(pass, key, offer);
-        }
-    }
-
-    // Returns the document at a version. The replay base is copied under the lock and replayed
-    // without it; the new snapshot is then offered to the cache.
-    fn replay_version(&self, pass: &mut Pass, key: &Key, version: u64) -> Result<FetchResult, Code>
-        requires { IsPassOfBackend pass.old self.now }
-        ensures pass { IsPassOfBackend pass.new self.now }
-        ensures answered { AnsweredAtExtension (plain_key key.now) (snapshot (Some version)) pass.old
-            (fetch_result_view result) pass.new }
-    {
-        let replay_start = self.run(pass, key, ReplayBaseJob { key, version })?;
-        if replay_start.entries.is_empty() {
-            let ReplayBase { snapshot, .. } = replay_start;
-            return Ok(FetchResult { version, snapshot });
-        }
-        let snapshot = replay_start.replay(self.alloc)?;
-        let offer = OfferJob {
-            key,
-            version,
-            snapshot: &snapshot,
-        };
-        self.run(pass, key, offer);
-        Ok(FetchResult { version, snapshot })
-    }
-
-    // Returns the version at a moment and the document at it, replayed without the lock. Entries
-    // stored meanwhile are later than the moment, unless the version is the current one, which
-    // needs no replay.
-    fn replay_moment(&self, pass: &mut Pass, key: &Key, moment: Moment) -> Result<FetchResult, Code>
-        requires { IsPassOfBackend pass.old self.now }
-        ensures pass { IsPassOfBackend pass.new self.now }
-        ensures answered { AnsweredAtExtension (plain_key key.now) (snapshot_at_time (Some moment)) pass.old
-            (fetch_result_view result) pass.new }
-    {
-        let ReplayBaseAt {
-            version,
-            base: replay_start,
-        } = self.run(pass, key, ReplayBaseAtMomentJob { key, moment })?;
-        if replay_start.entries.is_empty() {
-            let ReplayBase { snapshot, .. } = replay_start;
-            return Ok(FetchResult { version, snapshot });
-        }
-        let snapshot = replay_start.replay(self.alloc)?;
-        let offer = OfferJob {
-            key,
-            version,
-            snapshot: &snapshot,
-        };
-        self.run(pass, key, offer);
-        Ok(FetchResult { version, snapshot })
     }
 }
 

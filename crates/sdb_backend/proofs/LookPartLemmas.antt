@@ -16,10 +16,14 @@ use Rattle.sdb_striped_lock.specs.laws.SeatLaws.{have_seen_unique}
 use Rattle.sdb_backend.specs.CallAnswers.{RunsAtExtension, AnsweredAtExtension, IsLookSeenBy}
 use Rattle.sdb_backend.specs.HistoryOrder.{IsExtension}
 use Rattle.sdb_backend.specs.PassModel.{PassHasSeen}
-use Rattle.sdb_backend.specs.ReadsInParts.{ContinuesAs, KnowsFirstMissed, HasGrown, IsLookOutdatedFor}
+use Rattle.sdb_backend.specs.LooksInParts.{KnowsFirstMissed, HasGrown, IsLookOutdatedFor}
 use Rattle.sdb_backend.specs.declared.shard_value.Held.{Held}
 use Rattle.sdb_backend.specs.declared.pass.Pass.{Pass}
 use Rattle.sdb_backend.proofs.StepLemmas.{run_at_same_history, answered_after_unchanged}
+
+-- the pass has made calls that changed nothing: an answer to the later pass is one to the earlier pass
+abbrev pub ContinuesAs : PlainKey → Pass → Pass → Type 0
+ContinuesAs k p q = (c : PlainCall) (a : CallAnswer c) (r : Pass) → AnsweredAtExtension k c q a r → AnsweredAtExtension k c p a r
 
 -- a run that changed nothing
 pub continues_after_run : (k : PlainKey) (runs : Held → Held → Type 0) (p o q : Pass) (d : RunsAtExtension k runs o q)
