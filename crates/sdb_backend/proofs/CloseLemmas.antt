@@ -1,5 +1,5 @@
 -- The contents of an audit, given all passes.
-use Rattle.std.proofs.Common.{◌≡◌, ℕ, zero, suc, ◌+◌, ◌<◌, ◌≤◌, ◌⊎◌, inl, inr, Bool, true, false, nat_lt, List, [], ◌∷◌, length, map, slice_index_or, slice_get, Some, None, Contains, refl, sym, ap, ◌∙◌, subst, arith}
+use Rattle.std.proofs.Common.{◌≡◌, ℕ, zero, suc, ◌<◌, ◌≤◌, ◌⊎◌, inl, inr, Bool, true, false, nat_lt, List, [], ◌∷◌, length, map, slice_index_or, slice_get, Some, None, Contains, refl, sym, ◌∙◌, subst, arith}
 use Rattle.std.specs.List.{All}
 use Rattle.std.specs.List.Sorted.{IsPermutation}
 use Rattle.std.proofs.lemmas.Bool.{ltb-true, ltb-false}
@@ -8,7 +8,7 @@ use Rattle.std.proofs.lemmas.Option.{slice_get_cases, get_or_from_slice_get}
 use Rattle.sdb_growlock.specs.LockRule.{ForEach, IsAmong}
 use Rattle.sdb_desk.specs.ShardView.{machine_of}
 use Rattle.sdb_striped_lock.specs.CloseModel.{IsCloseResult, ExtendsAndKeeps}
-use Rattle.sdb_striped_lock.specs.SeatSetModel.{SeatSetBelongsTo, HasNumber, RootSeatsHaveSeen}
+use Rattle.sdb_striped_lock.specs.SeatSetModel.{SeatSetBelongsTo, HasNumber}
 use Rattle.sdb_striped_lock.specs.declared.striped_lock.StripedLock.{StripedLock}
 use Rattle.sdb_striped_lock.specs.declared.striped_lock.SeatSet.{SeatSet}
 use Rattle.sdb_backend.specs.HistoryOrder.{Extends, share_of, empty_share}

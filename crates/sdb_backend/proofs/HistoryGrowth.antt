@@ -1,23 +1,22 @@
 -- Each call extends the machine and changes only the share of the caller's number.
-use Rattle.std.proofs.Common.{◌≡◌, ◌≢◌, ℕ, ◌+◌, ◌<◌, ◌≤◌, ◌⊎◌, inl, inr, Bool, true, false, cond, List, [], ◌∷◌, ◌++◌, length, max, nat_eq, nat_lt, Option, Some, None, unwrap_or, Result, Ok, Err, refl, sym, ap, ◌∙◌, subst, arith, append_assoc, append-nil}
+use Rattle.std.proofs.Common.{◌≡◌, ◌≢◌, ℕ, ◌+◌, ◌≤◌, ◌⊎◌, inl, inr, Bool, true, false, cond, List, [], ◌∷◌, ◌++◌, length, max, nat_eq, Option, Some, None, unwrap_or, Result, Ok, Err, refl, sym, ap, ◌∙◌, subst, arith, append-nil}
 use Rattle.std.proofs.lemmas.Bool.Decides.{eqb_tells}
 use Rattle.std.proofs.lemmas.Bool.{eqb-true, eq-eqb}
 use Rattle.std.proofs.Math.Nat.{le-max_left}
 use Rattle.sdb_oplog.specs.Plain.{PlainEntry, PlainSubmission, PlainContent}
-use Rattle.sdb_oplog.specs.Keys.{PlainKey, Logs, with_log, keys_equal}
+use Rattle.sdb_oplog.specs.Keys.{PlainKey, with_log, keys_equal}
 use Rattle.sdb_oplog.specs.Decide.{PlainReply, stored, repeated, refused, Decision, decide, append_decided, rebased_content, missed_entries, new_entry}
 use Rattle.sdb_oplog.specs.laws.LogLaws.{decides_repeat, decides_settled}
 use Rattle.sdb_oplog.specs.Moments.{last_moment}
 use Rattle.sdb_oplog.specs.Snap.{stored_at}
 use Rattle.sdb_oplog.specs.declared.codes.Code.{Code}
-use Rattle.sdb_oplog.specs.declared.codes.Code.TheVariants.{E4, E11}
-use Rattle.sdb_subscribe.specs.Queue.{PlainQueue, PlainQueues, queue_at, open_queue, replace_queue, pending_entries, advance, queues_after_take, queues_after_take_by, remove_queue, remove_queue_by, is_queue_of, is_open_by}
+use Rattle.sdb_oplog.specs.declared.codes.Code.TheVariants.{E11}
+use Rattle.sdb_subscribe.specs.Queue.{PlainQueue, PlainQueues, queue_at, open_queue, advance, queues_after_take, queues_after_take_by, remove_queue, remove_queue_by, is_queue_of, is_open_by}
 use Rattle.sdb_subscribe.specs.laws.QueueLaws.{queue_at_opened_other, queue_at_taken, queue_at_taken_other, queue_at_removed_other}
-use Rattle.std.specs.Option.{option_map_or}
 use Rattle.sdb_desk.specs.laws.KeyLaws.{eq_of_keys_equal}
 use Rattle.sdb_desk.specs.laws.MapLaws.{value_of_updated}
 use Rattle.std.specs.Result.{result_ok}
-use Rattle.sdb_desk.specs.Machine.{Machine, PlainAttempt, PlainOutcome, decided, moved as moved_on, QueuesByKey, with_queues, close_queue, queue_start, subscribe_opened, subscribe_step, subscribe_from_start, DecidesOrOutOfMemory, CommitsOrOutOfMemory, SubscribesOrOutOfMemory, TakesOrOutOfMemory, IsUnchanged, PlainSubscribeResult}
+use Rattle.sdb_desk.specs.Machine.{Machine, PlainAttempt, PlainOutcome, decided, moved as moved_on, with_queues, close_queue, queue_start, subscribe_opened, subscribe_from_start, DecidesOrOutOfMemory, CommitsOrOutOfMemory, SubscribesOrOutOfMemory, TakesOrOutOfMemory, IsUnchanged, PlainSubscribeResult}
 use Rattle.sdb_submit.specs.Calls.{PlainCall, look, commit, commit_now, current_version, fetch, ops_from, ops_between, snapshot, snapshot_at_time, forget, subscribe, take_next, unsubscribe, CallAnswer, MachineStep}
 use Rattle.sdb_desk.specs.ShardState.{ShardState, machine_of_state}
 use Rattle.sdb_submit.specs.laws.ShardLaws.{IsCallOfState}

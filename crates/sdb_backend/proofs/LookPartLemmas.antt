@@ -1,5 +1,5 @@
 -- Reads in parts: what a pass knows after each part, and the answer after the last one.
-use Rattle.std.proofs.Common.{◌≡◌, ◌<◌, ℕ, ◌++◌, ◌⊎◌, inl, inr, true, List, [], length, drop, length-append, length-drop, append-nil, Option, Some, None, Result, Ok, Err, IfOk, OnErr, refl, sym, ap, ◌∙◌, subst, arith}
+use Rattle.std.proofs.Common.{◌≡◌, ◌<◌, ℕ, inl, true, List, [], length, drop, length-append, length-drop, append-nil, Some, None, Result, Ok, Err, IfOk, OnErr, refl, sym, ap, ◌∙◌, subst, arith}
 use Rattle.std.specs.declared.alloc.AllocError.{AllocError}
 use Rattle.sdb_oplog.specs.Decide.{refused, missed_entries}
 use Rattle.sdb_oplog.specs.Keys.{Logs, PlainKey, shard_of}
@@ -15,7 +15,6 @@ use Rattle.sdb_submit.specs.Calls.{PlainCall, look, commit, forget, CallAnswer, 
 use Rattle.sdb_striped_lock.specs.laws.SeatLaws.{have_seen_unique}
 use Rattle.sdb_backend.specs.CallAnswers.{RunsAtExtension, AnsweredAtExtension, IsLookSeenBy}
 use Rattle.sdb_backend.specs.HistoryOrder.{IsExtension}
-use Rattle.sdb_backend.specs.PassModel.{PassHasSeen}
 use Rattle.sdb_backend.specs.LooksInParts.{KnowsFirstMissed, HasGrown, IsLookOutdatedFor}
 use Rattle.sdb_backend.specs.declared.shard_value.Held.{Held}
 use Rattle.sdb_backend.specs.declared.pass.Pass.{Pass}

@@ -8,8 +8,8 @@ use Rattle.std.proofs.Math.Seq.{take-add}
 use Rattle.std.specs.Result.{result_ok}
 use Rattle.sdb_oplog.specs.declared.codes.Code.{Code}
 use Rattle.sdb_oplog.specs.declared.codes.Code.TheVariants.{E4, E10, E11}
-use Rattle.sdb_oplog.specs.Decide.{PlainReply, stored, repeated, refused, decide, missed_entries, new_entry}
-use Rattle.sdb_oplog.specs.Keys.{PlainKey, Logs, keys_equal, shard_of, with_log}
+use Rattle.sdb_oplog.specs.Decide.{PlainReply, stored, repeated, refused, decide, new_entry}
+use Rattle.sdb_oplog.specs.Keys.{PlainKey, keys_equal, shard_of, with_log}
 use Rattle.sdb_oplog.specs.Plain.{PlainEntry, PlainSubmission}
 use Rattle.sdb_subscribe.specs.Queue.{PlainQueue, PlainQueues, queue, queue_at, open_queue, pending_entries, advance, take_result, queues_after_take, queues_after_take_by, remove_queue, remove_queue_by, is_queue_of, is_open_by}
 use Rattle.sdb_subscribe.specs.laws.QueueLaws.{queue_at_taken, queue_at_taken_other, queue_at_removed_other}
@@ -23,7 +23,7 @@ use Rattle.sdb_growlock.specs.SeatModel.{HasSeen}
 use Rattle.sdb_growlock.specs.declared.grow_lock.Seat.{Seat}
 use Rattle.sdb_striped_lock.specs.laws.SeatLaws.{have_seen_unique}
 use Rattle.sdb_backend.specs.CallAnswers.{AnsweredAtExtension}
-use Rattle.sdb_backend.specs.HistoryOrder.{IsExtension, Extends, stored_by, queue_owned_by, share_of, Share, empty_share}
+use Rattle.sdb_backend.specs.HistoryOrder.{IsExtension, Extends, stored_by, queue_owned_by, share_of, Share}
 use Rattle.sdb_backend.specs.HistoryOrderLaws.{is_extension_refl}
 use Rattle.sdb_backend.specs.PassModel.{pass_number, PassHasSeen, PassHasSeenShard, HasEmptyShare}
 use Rattle.sdb_backend.specs.PassRuns.{IsCallUnder, AnsweredCall, AreAnswered, entry_identity, stored_by_reply, stored_by_outcome, stored_by_call, stored_by_calls, HasStoredCalls, taken_entries_or_none, taken_by_call, taken_by_calls, HasTakenQueue}

@@ -1,32 +1,25 @@
 -- A snapshot by version: its base copied at one history, replayed, and answered at a later one.
-use Rattle.std.proofs.Common.{◌≡◌, ℕ, ◌<◌, ◌≤◌, ◌⊎◌, inl, inr, Bool, true, false, cond, zero, suc, List, [], ◌∷◌, ◌++◌, take, drop, length, nat_eq, nat_lt, min, Option, Some, None, option_map, Result, Ok, Err, refl, sym, ap, ◌∙◌, subst, arith, length-append}
-use Rattle.std.proofs.lemmas.Bool.{eqb-true, le-ltb, lt-ltb}
-use Rattle.std.proofs.lemmas.Bool.Decides.{nat_tests}
+use Rattle.std.proofs.Common.{◌≡◌, ℕ, ◌+◌, ◌<◌, ◌≤◌, inl, inr, Bool, true, false, cond, List, [], ◌++◌, take, drop, length, nat_lt, min, Option, Some, Result, Ok, Err, refl, sym, ap, ◌∙◌, subst, arith, length-append}
+use Rattle.std.proofs.lemmas.Bool.{le-ltb, lt-ltb}
 use Rattle.std.proofs.lemmas.List.{take-append-le}
-use Rattle.std.specs.Bool.{◌==◌}
-use Rattle.std.specs.Vec.{vec_len}
 use Rattle.std.specs.Option.{is_some, option_map_or}
 use Rattle.std.specs.Result.{result_ok}
 use Rattle.sdb_value.specs.Value.{Value}
 use Rattle.sdb_oplog.specs.Plain.{PlainEntry}
-use Rattle.sdb_oplog.specs.Keys.{Logs, PlainKey, shard_of}
+use Rattle.sdb_oplog.specs.Keys.{PlainKey}
 use Rattle.sdb_oplog.specs.Decide.{IsMade}
 use Rattle.sdb_oplog.specs.laws.LogLaws.{made_moments_ordered, version_at_append, version_at_within}
 use Rattle.sdb_oplog.specs.Moments.{MomentsOrderedFrom, version_at}
 use Rattle.sdb_oplog.specs.Snap.{document_of, snap_from}
 use Rattle.sdb_oplog.specs.declared.codes.Code.{Code}
 use Rattle.sdb_oplog.specs.declared.codes.Code.TheVariants.{E4, E10}
+use Rattle.sdb_snapcache.specs.CacheModel.{Snapshot}
 use Rattle.sdb_desk.specs.Machine.{Machine, PlainFetchResult, IsUnchanged, ReadOrOutOfMemory, read_has_version, snapshot_at, fetch_at_moment}
-use Rattle.sdb_desk.specs.Reads.{PlainReplayBase, IsReplayBase, IsReplayBaseUpTo}
-use Rattle.sdb_desk.specs.ShardView.{machine_of, logs_of}
-use Rattle.sdb_desk.specs.View.{plain_replay_base}
-use Rattle.sdb_desk.specs.declared.replay_base.ReplayBase.{ReplayBase}
-use Rattle.sdb_submit.specs.Calls.{snapshot, snapshot_at_time, forget, MachineStep}
-use Rattle.sdb_backend.specs.CallAnswers.{AnsweredAtExtension}
+use Rattle.sdb_desk.specs.Reads.{PlainReplayBase, IsReplayBase, IsReplayBaseUpTo, IsCachedReplayBase}
+use Rattle.sdb_desk.proofs.ReplayLemmas.{no_entries_after}
+use Rattle.sdb_submit.specs.Calls.{snapshot, snapshot_at_time, MachineStep}
 use Rattle.sdb_backend.specs.HistoryOrder.{IsExtension}
 use Rattle.sdb_backend.specs.ReplayBases.{IsDocumentAt}
-use Rattle.sdb_backend.specs.declared.shard_value.Held.{Held}
-use Rattle.sdb_backend.specs.declared.pass.Pass.{Pass}
 
 -- ---- the replay base
 
@@ -56,6 +49,11 @@ base_at_version log v max l h is =
     let base : IsReplayBase log v l = subst (λ n. IsReplayBase log n l) reached h.base in
     let none : l.entries ≡ [] = base.1 ∙ ap (λ w. drop w (take v log)) is ∙ no_entries_after v log in
     borrowed_at log v l l.snapshot base (ap (snap_from l.snapshot) none)
+
+-- the base of the current version is at it
+pub current_base : (log : List PlainEntry) (kept : List Snapshot) (v : ℕ) (l : PlainReplayBase) → IsCachedReplayBase log kept v l → v ≡ length log → l.version ≡ v
+current_base log kept v l (inl h) is = h.1
+current_base log kept v l (inr h) is = let w = h.0 in absurd (omega (arith, w, is))
 
 -- ---- the answer
 

@@ -1,5 +1,5 @@
 -- A submission of a pass is decided atomically, and its takes continue.
-use Rattle.std.proofs.Common.{◌≡◌, ℕ, Bool, true, false, cond, nat_eq, List, ◌∷◌, Option, None, Some, option_map, Result, Ok, Err, IfOk, Vec, refl, sym, ap, ◌∙◌, subst}
+use Rattle.std.proofs.Common.{◌≡◌, ℕ, Bool, true, false, cond, nat_eq, List, Option, None, Some, option_map, Result, Ok, Err, IfOk, Vec, refl, sym, ap, ◌∙◌, subst}
 use Rattle.std.specs.Global.{Global}
 use Rattle.std.specs.declared.alloc.AllocError.{AllocError}
 use Rattle.sdb_oplog.specs.Plain.{PlainEntry, PlainSubmission}
@@ -9,7 +9,7 @@ use Rattle.sdb_oplog.specs.declared.codes.Code.TheVariants.{E10}
 use Rattle.sdb_subscribe.specs.Queue.{PlainQueue, queue_at, pending_entries, take_result_by, is_queue_of}
 use Rattle.sdb_desk.specs.ShardView.{machine_of}
 use Rattle.sdb_desk.specs.View.{taken_view}
-use Rattle.sdb_desk.specs.Machine.{Machine, PlainLook, PlainAttempt, IsUnchanged, decided, moved}
+use Rattle.sdb_desk.specs.Machine.{PlainLook, PlainAttempt, IsUnchanged, decided, moved}
 use Rattle.sdb_submit.specs.Calls.{PlainCall, look, commit, commit_now, take_next, CallAnswer, MachineStep}
 use Rattle.sdb_submit.specs.SubmitLoop.{SubmitRelation}
 use Rattle.sdb_submit.specs.laws.SubmitLaws.{IsSubmitInvariant, submit_preserves, decided_at_commit, out_of_memory_unchanged}

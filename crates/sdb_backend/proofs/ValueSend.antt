@@ -1,6 +1,6 @@
 -- Values are Send and Sync: they share by `Arc`.
 use denote.RattleType.{RattleType}
-use denote.Struct.Field.{Field, row_field}
+use denote.Struct.Field.{row_field}
 use denote.Param.Send.{IsSend, IsSync, sendable}
 use denote.Param.SendFields.{as_row_send, as_row_sync, declared_send, declared_sync, variants_send, variants_sync}
 use Rattle.std.proofs.Crossing.{Vec-send, Vec-sync, Arc-send, Arc-sync, crosses}

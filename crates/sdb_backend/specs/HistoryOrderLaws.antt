@@ -1,5 +1,5 @@
 -- Laws of histories: `Extends` is reflexive and transitive.
-use Rattle.std.proofs.Common.{◌≡◌, ℕ, ◌<◌, ◌≤◌, List, [], ◌++◌, Option, Some, None, refl, sym, ap, ◌∙◌, arith, append_assoc, append-nil}
+use Rattle.std.proofs.Common.{List, [], ◌++◌, Option, Some, None, refl, sym, ap, ◌∙◌, arith, append_assoc, append-nil}
 use Rattle.sdb_oplog.specs.Plain.{PlainEntry}
 use Rattle.sdb_subscribe.specs.Queue.{PlainQueue, PlainQueues, queue_at}
 use Rattle.sdb_desk.specs.Machine.{Machine}

@@ -6,7 +6,7 @@ use Rattle.sdb_oplog.specs.Moments.{version_at}
 use Rattle.sdb_oplog.specs.Plain.{PlainEntry}
 use Rattle.sdb_oplog.specs.Snap.{document_of}
 use Rattle.sdb_oplog.specs.declared.codes.Code.{Code}
-use Rattle.sdb_desk.specs.Machine.{Machine, IsUnchanged, ReadOrOutOfMemory, read_has_version, snapshot_at, fetch_at_moment}
+use Rattle.sdb_desk.specs.Machine.{Machine, ReadOrOutOfMemory, read_has_version, snapshot_at, fetch_at_moment}
 use Rattle.sdb_desk.specs.Reads.{PlainReplayBase, IsReplayBaseUpTo}
 use Rattle.sdb_desk.specs.View.{plain_replay_base}
 use Rattle.sdb_desk.specs.declared.replay_base.ReplayBase.{ReplayBase}

@@ -25,6 +25,8 @@ pub(crate) const MAX_REPLAY: u64 = 8192;
 /// The logs of a backend. The trait has no bound `Wait`, so that a loop over its calls is proved
 /// to end.
 pub(crate) trait EntrySource {
+    ghost use Rattle.sdb_backend.specs.declared.pass.Pass.{Pass};
+
     // Whether a pass belongs to this source.
     ghost accepts: { Self → Pass → Type 0 };
 

@@ -8,9 +8,9 @@ use Rattle.sdb_oplog.specs.Plain.{PlainEntry}
 use Rattle.sdb_oplog.specs.Keys.{PlainKey, shard_of}
 use Rattle.sdb_oplog.specs.declared.codes.Code.{Code}
 use Rattle.sdb_desk.specs.Machine.{Machine, IsUnchanged, ReadOrOutOfMemory, is_nonempty, operations_between, operations_from}
-use Rattle.sdb_desk.specs.ShardView.{machine_of, logs_of}
+use Rattle.sdb_desk.specs.ShardView.{machine_of}
 use Rattle.sdb_submit.specs.Calls.{PlainCall, CallAnswer, current_version, ops_between}
-use Rattle.sdb_submit.specs.SubmitLoop.{CallRelation, PlainBatch, total_size, entries_of, ReadsBatches, ListsAll}
+use Rattle.sdb_submit.specs.SubmitLoop.{PlainBatch, total_size, entries_of, ReadsBatches, ListsAll}
 use Rattle.sdb_submit.specs.laws.SubmitLaws.{drop_drop, length_of_not_empty, between_not_empty, operations_reached, operations_too_new}
 use Rattle.sdb_striped_lock.specs.laws.SeatLaws.{have_seen_unique}
 use Rattle.sdb_backend.specs.CallAnswers.{AnsweredAtExtension, PassCalls, ListedAtExtension}

@@ -1,4 +1,4 @@
-use Rattle.std.proofs.Common.{ℕ, ◌-◌, ◌≤◌, option_map}
+use Rattle.std.proofs.Common.{◌-◌, ◌≤◌, option_map}
 use Rattle.sdb_value.specs.View.{value_of}
 use Rattle.sdb_oplog.specs.Keys.{plain_key}
 use Rattle.sdb_backend.specs.ReplaysInParts.{HasOnlyRead}

@@ -1,4 +1,4 @@
-use Rattle.std.proofs.Common.{◌≡◌, ℕ, ◌<◌, List, length, slice_index_or, slice_get, refl, sym, ap, ◌∙◌, subst, arith}
+use Rattle.std.proofs.Common.{◌≡◌, ℕ, ◌<◌, List, length, slice_index_or, slice_get, refl, sym, ap, ◌∙◌, subst}
 use Rattle.sdb_growlock.specs.LockRule.{ForEach}
 use Rattle.sdb_striped_lock.specs.CloseModel.{IsCloseResult}
 use Rattle.sdb_striped_lock.specs.Capacity.{HasCapacity}

@@ -1,4 +1,4 @@
-use Rattle.std.proofs.Common.{sym, subst, refl, ap, ◌∙◌}
+use Rattle.std.proofs.Common.{sym, subst, refl, ◌∙◌}
 use Rattle.sdb_oplog.specs.Keys.{plain_key}
 use Rattle.sdb_desk.specs.ShardView.{state_of, machine_of}
 use Rattle.sdb_desk.specs.View.{outcome_of_decision}
