@@ -39,8 +39,10 @@ def ended(program, *options, text=""):
 
 
 def logs_of(program, file):
-    """Returns the source and the number of each operation of a file, by document."""
+    """Returns the source and the number of each operation of a file, by document. An empty file has none."""
     status, dump, errors = ended(program, "--store", str(file), "--dump")
+    if errors == f"store: {file}: the file is empty\n":
+        return {}
     assert status == 0, errors
     logs = {}
     for text in dump.splitlines()[1:-1]:
@@ -89,7 +91,7 @@ def test_a_wrong_dump_creates_no_file(program, tmp_path, cut, wrong):
 
 @pytest.mark.parametrize("task", ["--check", "--dump"])
 def test_a_missing_file_is_not_created(program, tmp_path, task):
-    assert ended(program, "--store", str(tmp_path / "store"), task) == (1, "", "store: cannot open the file\n")
+    assert ended(program, "--store", str(tmp_path / "store"), task) == (1, "", f"store: {tmp_path}/store: no such file\n")
     assert not list(tmp_path.iterdir())
 
 
@@ -99,6 +101,9 @@ def test_a_missing_file_is_not_created(program, tmp_path, task):
         ["--check"],
         ["--load"],
         ["--dump"],
+        ["--recover", "y"],
+        ["--store", "x", "--check", "--recover", "y"],
+        ["--store", "x", "--lines", "--recover", "y"],
         ["--store", "x", "--check", "--dump"],
         ["--store", "x", "--check", "--load"],
         ["--store", "x", "--dump", "--lines"],

@@ -122,15 +122,17 @@ class Recording:
         run = subprocess.run(command, input="", capture_output=True, text=True, timeout=READ, check=False)
         return [] if run.returncode == 0 else [f"a start has status {run.returncode}: {run.stderr.strip()}"]
 
-    # The program reads the state.
+    # The program reads the state, and doesn't change it.
     def faults_of_program(self, store, facts):
+        before = contents(store.parent)
         run = subprocess.run([self.program, "--store", store, "--dump"], capture_output=True, text=True, timeout=READ, check=False)
         if run.returncode != 0:
             return [f"status {run.returncode}: {run.stderr.strip()}"]
         logs = {}
         for entry in map(json.loads, run.stdout.splitlines()[1:-1]):
             logs.setdefault(entry["d"], []).append((entry["src"], entry["seq"]))
-        return lost_facts([fact for fact in facts if fact.kind != "number"], logs, 0) + self.divergences(logs)
+        changed = [] if contents(store.parent) == before else ["--dump has changed the files"]
+        return changed + lost_facts([fact for fact in facts if fact.kind != "number"], logs, 0) + self.divergences(logs)
 
     def divergences(self, logs):
         return [f"the log of {it} is no prefix" for it, log in logs.items() if log != self.whole.get(it, [])[: len(log)]]

@@ -1,3 +1,1 @@
-pub mod LoopModel
-pub mod PassLocks
-pub mod PassModel
+pub use Rattle.sdb_connection.specs.LoopModel

@@ -1,11 +1,8 @@
 //! Delivering stored operations.
-use crate::closing::Progress;
-use crate::connection_slot::ConnectionSlot;
-use crate::document_group::{DocumentGroup, WORD_COUNT};
 use crate::event_loop::EventLoop;
-use crate::loop_pass::PassBrand;
-use crate::loop_port::LoopPort;
-use crate::session_end::SessionEnd;
+use sdb_connection::{ConnectionSlot, PassBrand};
+use sdb_link::{Progress, SessionEnd};
+use sdb_loop_state::{DocumentGroup, LoopPort, WORD_COUNT};
 use sdb_session::Policy;
 use std::alloc::AllocError;
 use std::net::Net;
@@ -27,20 +24,14 @@ impl<R: Net + Wait + Clock + Eprint + Copy + Drop, P: Policy + Drop, B: PassBran
                 self.end_session(key, SessionEnd::OutOfMemory);
             }
         }
-        self.list_lagging(key);
+        self.connections.list_lagging(key);
     }
 
     fn subscribe(&mut self, key: usize, group: DocumentGroup) -> Result<(), AllocError> {
-        let is_new = match self.slots.get_mut(key) {
-            Some(ConnectionSlot::Served(connection)) => connection.subscribe(group)?,
-            _ => false,
-        };
-        if !is_new {
+        if !self.connections.subscribe(key, group)? {
             return Ok(());
         }
-        if let Some(subscribers) = self.subscribers.get_mut(group.number()) {
-            subscribers.push(key)?;
-        }
+        self.subscribers.add(group, key)?;
         if let Some(port) = self.port() {
             port.subscribe(group);
         }
@@ -50,7 +41,9 @@ impl<R: Net + Wait + Clock + Eprint + Copy + Drop, P: Policy + Drop, B: PassBran
     /// Reads the queues of the connections that lag, and of all subscribers of documents of which
     /// operations were stored.
     pub(crate) fn deliver(&mut self) {
-        self.pump_lagging();
+        for key in self.connections.lists.take_lagging() {
+            self.pump(key);
+        }
         if !self.port().is_some_and(LoopPort::take_change) {
             return;
         }
@@ -59,13 +52,6 @@ impl<R: Net + Wait + Clock + Eprint + Copy + Drop, P: Policy + Drop, B: PassBran
             if bits != 0 {
                 self.deliver_word(word, bits);
             }
-        }
-    }
-
-    fn pump_lagging(&mut self) {
-        let lagging = std::mem::replace(&mut self.lagging, Vec::new(self.alloc));
-        for key in lagging {
-            self.pump(key);
         }
     }
 
@@ -81,22 +67,17 @@ impl<R: Net + Wait + Clock + Eprint + Copy + Drop, P: Policy + Drop, B: PassBran
     // Goes from the last subscriber to the first, so that one that is removed shifts none that comes
     // later.
     fn deliver_group(&mut self, number: usize) {
-        let count = self.subscribers.get(number).map_or(0, Vec::len);
+        let count = self.subscribers.count(number);
         for position in (0..count).rev() {
-            if let Some(key) = self.subscriber_at(number, position) {
+            if let Some(key) = self.subscribers.at(number, position) {
                 self.pump(key);
             }
         }
     }
 
-    fn subscriber_at(&self, number: usize, position: usize) -> Option<usize> {
-        let key = self.subscribers.get(number)?.get(position)?;
-        Some(*key)
-    }
-
     // Sends entries of the connection's queues. If more are left, it lags.
     fn pump(&mut self, key: usize) {
-        let connection = match self.slots.get_mut(key) {
+        let connection = match self.connections.slots.get_mut(key) {
             Some(ConnectionSlot::Served(connection)) => connection,
             Some(ConnectionSlot::InTurn(events)) => {
                 events.is_lagging = true;
@@ -105,11 +86,11 @@ impl<R: Net + Wait + Clock + Eprint + Copy + Drop, P: Policy + Drop, B: PassBran
             _ => return,
         };
         connection.is_lagging = false;
-        match connection.pump(&self.context, self.time, &mut self.buffers.output) {
-            Ok(Progress::More) => self.list_lagging(key),
+        match connection.pump(&self.context, self.clock.time, &mut self.buffers.output) {
+            Ok(Progress::More) => self.connections.list_lagging(key),
             Ok(_) => {}
             Err(end) => self.end_session(key, end),
         }
-        self.list_held(key);
+        self.connections.list_held(key);
     }
 }

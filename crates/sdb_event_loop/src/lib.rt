@@ -12,48 +12,22 @@
 //! of unanswered input are served at once. Others wait, without holding up a loop.
 #![tactic(auto)]
 
-mod accepting;
+mod acceptor;
 mod admission;
-mod closing;
-mod connection;
-mod connection_input;
-mod connection_output;
-mod connection_slot;
-mod deadlines;
+mod connections;
 mod delivery;
-mod document_group;
 mod event_loop;
-mod frame_sink;
-mod handshake;
 mod holding;
-mod large_turns;
-mod link;
+mod kept_passes;
 mod listen;
-mod log;
-mod loop_buffers;
-mod loop_context;
-mod loop_pass;
-mod loop_port;
-mod loop_server;
-mod loop_slot;
-mod loop_slots;
+mod loop_clock;
 mod loop_threads;
-mod loop_wakes;
-mod metrics;
-mod pass_supply;
-mod pending_document;
-mod pending_output;
-mod plain_request;
 mod polled_loop;
 mod serving;
-mod session_end;
 mod sessions;
 mod sweep;
-mod turn;
-mod watcher;
 
 pub use listen::listen_on_loops;
-pub use loop_server::{
-    DEFAULT_LOOP_CLIENTS, LOOP_CLIENT_LIMIT, LOOP_LIMIT, LoopOptions, LoopServer,
-};
-pub use plain_request::VERSION;
+pub use sdb_connection::LoopServer;
+pub use sdb_link::VERSION;
+pub use sdb_loop_state::{DEFAULT_LOOP_CLIENTS, LOOP_CLIENT_LIMIT, LOOP_LIMIT, LoopOptions};

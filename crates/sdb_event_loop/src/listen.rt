@@ -2,15 +2,12 @@
 ghost use Rattle.std.specs.Prelude.{◌≡◌, IfOk, OnErr};
 ghost use Rattle.sdb_backend.specs.PassModel.{IsPassOfBackend};
 ghost use Rattle.sdb_growlock.specs.LockRule.{ForEach};
-ghost use Rattle.sdb_event_loop.specs.LoopModel.{IsHostOfLoops, loops_backend};
-ghost use Rattle.sdb_event_loop.specs.PassLocks.{NamesBackend};
+ghost use Rattle.sdb_connection.specs.LoopModel.{IsHostOfLoops, loops_backend};
+ghost use Rattle.sdb_connection.specs.PassLocks.{NamesBackend};
 
-use crate::loop_context::LoopContext;
-use crate::loop_pass::{LoopPass, PassBrand};
-use crate::loop_server::LoopServer;
 use crate::loop_threads::{LoopThreads, start_loops};
-use crate::pass_supply::supply_passes;
 use sdb_backend::{Host, Pass};
+use sdb_connection::{LoopContext, LoopPass, LoopServer, PassBrand, supply_passes};
 use sdb_session::Policy;
 use std::alloc::Global;
 use std::collections::VecDeque;
@@ -88,10 +85,10 @@ where
     ensures passes { IfOk result (λ passes. ForEach (λ p. IsPassOfBackend p state.now.value.backend) passes.items) }
     ensures host_unchanged_on_err { OnErr result (host.new ≡ host.old) }
 {
-    state.prepare();
     let context: LoopContext<R, P, B> = LoopContext::new(rt, alloc, state)?;
+    context.loops().prepare();
     let threads = start_loops(alloc, listener, &context)?;
-    context.state.open(&rt);
+    context.loops().open(&rt);
     supply_passes(&context, host);
     Ok(join_loops(alloc, &context, threads))
 }

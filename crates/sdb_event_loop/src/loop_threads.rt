@@ -1,17 +1,14 @@
 //! The threads of loops.
-use crate::document_group::GROUP_COUNT;
 use crate::event_loop::{EventLoop, LISTENER, WAKER};
-use crate::loop_buffers::LoopBuffers;
-use crate::loop_context::LoopContext;
-use crate::loop_pass::{LoopPass, PassBrand};
-use crate::loop_slots::LoopSlots;
-use crate::polled_loop::{LoopRunner, PolledLoop, run_loops};
-use crate::watcher::watch_loops;
+use crate::polled_loop::{LoopRunner, PolledLoop, SlotsOfLoops, run_loops};
 use mio::net::TcpListener as MioListener;
 use mio::unix::SourceFd;
 use mio::{Events, Interest, Poll, Waker};
+use sdb_connection::{LoopContext, LoopPass, PassBrand};
+use sdb_link::LoopBuffers;
+use sdb_loop_state::{LoopSlots, Subscribers, watch_loops};
 use sdb_session::Policy;
-use std::alloc::{AllocError, Global};
+use std::alloc::Global;
 use std::net::{Net, TcpListener, TcpStream};
 use std::os::fd::AsRawFd;
 use std::sync::{Arc, Wait};
@@ -26,18 +23,10 @@ const EVENT_LIMIT: usize = 256;
 // loop.
 const SPARE_THREADS: usize = 32;
 
-fn empty_groups(alloc: Global) -> Result<Vec<Vec<usize>>, AllocError> {
-    let mut groups = Vec::with_capacity(alloc, GROUP_COUNT)?;
-    for _ in 0..GROUP_COUNT {
-        groups.push(Vec::new(alloc))?;
-    }
-    Ok(groups)
-}
-
 /// The threads of a run, which share its loops.
 #[derive(Drop)]
 pub(crate) struct LoopThreads<R, P, B: PassBrand> {
-    pub(crate) slots: Arc<LoopSlots<R, P, B>, Global>,
+    pub(crate) slots: Arc<SlotsOfLoops<R, P, B>, Global>,
     threads: Vec<JoinHandle<()>>,
 }
 
@@ -67,7 +56,7 @@ where
 {
     listener.set_nonblocking(true)?;
     let listener = Arc::new(alloc, MioListener::from_std(listener))?;
-    let loops = context.state.loop_count();
+    let loops = context.loops().ports.count();
     let thread_count = loops.saturating_add(SPARE_THREADS);
     let slots = Arc::new(alloc, LoopSlots::new(alloc, loops, thread_count)?)?;
     for number in 0..loops {
@@ -78,7 +67,7 @@ where
     match start_threads(alloc, context, &mut started, thread_count) {
         Ok(()) => Ok(started),
         Err(error) => {
-            context.state.end(&context.rt);
+            context.loops().end(&context.rt);
             started.join(&context.rt, alloc);
             Err(error)
         }
@@ -90,7 +79,7 @@ fn create_loop<R, P, B>(
     alloc: Global,
     listener: &Arc<MioListener, Global>,
     context: &LoopContext<R, P, B>,
-    slots: &LoopSlots<R, P, B>,
+    slots: &SlotsOfLoops<R, P, B>,
     number: usize,
 ) -> io::Result<()>
 where
@@ -99,7 +88,7 @@ where
     B: PassBrand,
 {
     let (poll, waker) = polled_listener(&context.rt, listener)?;
-    if let Some(port) = context.state.port(number) {
+    if let Some(port) = context.loops().ports.port(number) {
         port.set_waker(&context.rt, Some(waker));
     }
     let event_loop = EventLoop::new(
@@ -107,8 +96,8 @@ where
         context.try_clone()?,
         number,
         Arc::try_clone(listener)?,
-        LoopBuffers::new(alloc, context.state.progress())?,
-        empty_groups(alloc)?,
+        LoopBuffers::new(alloc, context.loops().settings.progress())?,
+        Subscribers::new(alloc)?,
     );
     let polled = PolledLoop {
         event_loop,
@@ -161,7 +150,7 @@ where
 fn start_watcher<R, P, B>(
     alloc: Global,
     context: &LoopContext<R, P, B>,
-    slots: &Arc<LoopSlots<R, P, B>, Global>,
+    slots: &Arc<SlotsOfLoops<R, P, B>, Global>,
 ) -> io::Result<JoinHandle<()>>
 where
     R: Threads + Wait + Clock + Drop + Copy + Send + Sync + 'static,
@@ -169,7 +158,7 @@ where
     B: PassBrand + Send + Sync + 'static,
 {
     let rt = context.rt;
-    let seen = Vec::from_elem(alloc, 0u64, context.state.loop_count())?;
+    let seen = Vec::from_elem(alloc, 0u64, context.loops().ports.count())?;
     let slots = Arc::try_clone(slots)?;
     handle_of(thread::spawn(&rt, move || watch_loops(&rt, &slots, seen)))
 }
@@ -177,7 +166,7 @@ where
 fn start_thread<R, P, B>(
     alloc: Global,
     context: &LoopContext<R, P, B>,
-    slots: &Arc<LoopSlots<R, P, B>, Global>,
+    slots: &Arc<SlotsOfLoops<R, P, B>, Global>,
     number: usize,
 ) -> io::Result<JoinHandle<()>>
 where
@@ -187,7 +176,7 @@ where
     B: PassBrand + Send + Sync + 'static,
 {
     let slots = Arc::try_clone(slots)?;
-    let buffers = LoopBuffers::new(alloc, context.state.progress())?;
+    let buffers = LoopBuffers::new(alloc, context.loops().settings.progress())?;
     let runner = LoopRunner::new(alloc, context.try_clone()?, slots, buffers, number);
     handle_of(thread::spawn(&context.rt, move || run_loops(runner)))
 }

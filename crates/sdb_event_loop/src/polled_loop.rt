@@ -1,16 +1,17 @@
 //! Running loops.
-use crate::event_loop::EventLoop;
-use crate::loop_buffers::LoopBuffers;
-use crate::loop_context::LoopContext;
-use crate::loop_pass::PassBrand;
-use crate::loop_slot::LoopSlot;
-use crate::loop_slots::LoopSlots;
+use crate::event_loop::{EventLoop, SlotOfLoop};
 use mio::{Events, Poll};
+use sdb_connection::{EndedTurn, LoopContext, LoopPass, PassBrand};
+use sdb_link::LoopBuffers;
+use sdb_loop_state::LoopSlots;
 use sdb_session::Policy;
 use std::alloc::Global;
 use std::net::Net;
 use std::sync::{Arc, Wait};
 use std::time::Clock;
+
+/// The slots of all loops.
+pub(crate) type SlotsOfLoops<R, P, B> = LoopSlots<PolledLoop<R, P, B>, EndedTurn<B>, LoopPass<B>>;
 
 /// A loop and its event queue.
 #[derive(Drop)]
@@ -25,7 +26,7 @@ pub(crate) struct PolledLoop<R, P, B: PassBrand> {
 pub(crate) struct LoopRunner<R, P, B: PassBrand> {
     alloc: Global,
     context: LoopContext<R, P, B>,
-    slots: Arc<LoopSlots<R, P, B>, Global>,
+    slots: Arc<SlotsOfLoops<R, P, B>, Global>,
     buffers: LoopBuffers,
     // The number of the thread.
     thread: usize,
@@ -36,7 +37,7 @@ impl<R, P, B: PassBrand> LoopRunner<R, P, B> {
     pub(crate) fn new(
         alloc: Global,
         context: LoopContext<R, P, B>,
-        slots: Arc<LoopSlots<R, P, B>, Global>,
+        slots: Arc<SlotsOfLoops<R, P, B>, Global>,
         buffers: LoopBuffers,
         thread: usize,
     ) -> LoopRunner<R, P, B> {
@@ -76,7 +77,7 @@ where
 fn run_loop<R, P, B: PassBrand>(
     alloc: Global,
     context: &LoopContext<R, P, B>,
-    slots: &LoopSlots<R, P, B>,
+    slots: &SlotsOfLoops<R, P, B>,
     number: usize,
     buffers: &mut LoopBuffers,
 )
@@ -103,8 +104,8 @@ fn run_pass<R, P, B: PassBrand>(
     alloc: Global,
     mut polled: Box<PolledLoop<R, P, B>>,
     context: &LoopContext<R, P, B>,
-    slots: &LoopSlots<R, P, B>,
-    slot: &LoopSlot<R, P, B>,
+    slots: &SlotsOfLoops<R, P, B>,
+    slot: &SlotOfLoop<R, P, B>,
     buffers: &mut LoopBuffers,
 ) -> Option<Box<PolledLoop<R, P, B>>>
 where
@@ -121,7 +122,7 @@ where
     Some(polled)
 }
 
-fn begin_pass<R, P, B: PassBrand>(polled: &mut PolledLoop<R, P, B>, slot: &LoopSlot<R, P, B>)
+fn begin_pass<R, P, B: PassBrand>(polled: &mut PolledLoop<R, P, B>, slot: &SlotOfLoop<R, P, B>)
 where
     R: Net + Wait + Clock + Eprint + Copy + Drop,
     P: Policy + Drop,
@@ -149,8 +150,8 @@ fn serve_ready<R, P, B: PassBrand>(
     alloc: Global,
     polled: Box<PolledLoop<R, P, B>>,
     context: &LoopContext<R, P, B>,
-    slots: &LoopSlots<R, P, B>,
-    slot: &LoopSlot<R, P, B>,
+    slots: &SlotsOfLoops<R, P, B>,
+    slot: &SlotOfLoop<R, P, B>,
     buffers: &mut LoopBuffers,
 ) -> Option<Box<PolledLoop<R, P, B>>>
 where
@@ -158,7 +159,7 @@ where
     P: Policy + Drop,
 {
     let mut running = polled;
-    for _ in 0..running.event_loop.ready_count() {
+    for _ in 0..running.event_loop.connections.lists.ready_count() {
         running = serve_next(alloc, running, context, slots, slot, buffers)?;
     }
     Some(running)
@@ -170,8 +171,8 @@ fn serve_next<R, P, B: PassBrand>(
     alloc: Global,
     mut polled: Box<PolledLoop<R, P, B>>,
     context: &LoopContext<R, P, B>,
-    slots: &LoopSlots<R, P, B>,
-    slot: &LoopSlot<R, P, B>,
+    slots: &SlotsOfLoops<R, P, B>,
+    slot: &SlotOfLoop<R, P, B>,
     buffers: &mut LoopBuffers,
 ) -> Option<Box<PolledLoop<R, P, B>>>
 where
@@ -181,7 +182,7 @@ where
     let Some(turn) = polled.event_loop.next_turn() else {
         return Some(polled);
     };
-    let time = polled.event_loop.time;
+    let time = polled.event_loop.clock.time;
     let number = polled.event_loop.number;
     slots.begin_turn(&context.rt, slot, polled);
     let ended = turn.run(alloc, context, time, buffers);
@@ -192,7 +193,7 @@ where
         }
         None => {
             slot.add_ended_turn(&context.rt, ended);
-            context.state.wake_loop(&context.rt, number);
+            context.loops().ports.wake(&context.rt, number);
             None
         }
     }

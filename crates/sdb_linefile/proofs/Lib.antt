@@ -1,4 +1,5 @@
 mod Adding
+mod LostFrames
 mod Opened
 mod Reading
 mod Receipts

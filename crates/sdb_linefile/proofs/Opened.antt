@@ -1,5 +1,5 @@
 -- The lines that an open finds.
-use Rattle.std.proofs.Common.{◌≡◌, ◌⊎◌, inl, inr, ℕ, List, false, [], Result, Ok, OnOk, Err, refl, sym, ap, subst, ◌∙◌, IsTrue}
+use Rattle.std.proofs.Common.{◌≡◌, ◌⊎◌, inl, inr, ℕ, List, length, arith, false, [], Result, Ok, OnOk, IfOk, Err, refl, sym, ap, subst, ◌∙◌, IsTrue}
 use Rattle.std.specs.Result.{is_err}
 use Rattle.sqlite_wal.specs.Recovery.{Image}
 use Rattle.sqlite_catalog.specs.Listing.{Lists, IsSound}
@@ -12,7 +12,7 @@ use Rattle.sqlite_schema.specs.declared.schema.Schema.{Schema}
 use Rattle.sqlite.specs.Start.{FindsIn}
 use Rattle.sqlite.specs.State.{State, Opens, IsLive}
 use Rattle.sdb_linefile.specs.LineTable.{line_schema, empty_schema, ContainsLines}
-use Rattle.sdb_linefile.specs.LineFile.{StoresLines, FilesContain, HasNoDatabase, HasNoTable}
+use Rattle.sdb_linefile.specs.LineFile.{StoresLines, FilesContain, HasNoDatabase, HasNoTable, IsLineFile}
 
 -- an open connection reads the schema of the trees
 pub schema_found : (s : State) (db : Trees) (schema : Schema) → Opens s → IsLive s → s.committed.trees ≡ db → IsSound schema db → s.now.schema ≡ schema
@@ -37,6 +37,16 @@ schema_of_nothing s image found opened live none = elim found.reads [
 pub schema_of_empty : (s : State) (image : Image) → FindsIn image s → Opens s → IsLive s → HasNoTable image → s.now.schema ≡ empty_schema
 schema_of_empty s image found opened live (inl none) = schema_of_nothing s image found opened live none
 schema_of_empty s image found opened live (inr it) = schema_found s it.0 empty_schema opened live (found.holds it.0 it.1) it.2
+
+line_not_empty : line_schema ≡ empty_schema → ⊥
+line_not_empty same = let tables : 1 ≡ 0 = ap (λ (s : Schema). length s.tables) same in omega (arith, tables)
+
+-- files whose connection reads the schema of the lines are a file of lines
+pub line_file_found : (s : State) (image : Image) → FindsIn image s → Opens s → IsLive s → s.now.schema ≡ line_schema → IsLineFile image
+line_file_found s image found opened live is = record {
+  some = λ none. line_not_empty (sym is ∙ schema_of_empty s image found opened live none);
+  table = λ db schema holds sound. sym (schema_found s db schema opened live (found.holds db holds) sound) ∙ is;
+}
 
 -- an open connection to such trees reads the lines
 stores_found : (s : State) (lines : List (List ℕ)) (db : Trees) → s.now.trees ≡ db → Opens s → IsLive s → ((left : Trees) → s.may_leave left → left ≡ db) → ContainsLines lines db → StoresLines lines s
@@ -71,3 +81,7 @@ stores_either s these those db opened live settled is holds =
 pub at_ok : {A E X : Type 0} (r : Result A E) → is_err r ≡ false → OnOk r X → X
 at_ok (Ok x) e h = h
 at_ok (Err y) e h = absurd cc
+
+pub map_ok : {A E : Type 0} {P Q : A → Type 0} (r : Result A E) → IfOk r P → ((x : A) → P x → Q x) → IfOk r Q
+map_ok (Ok x) is step = step x is
+map_ok (Err e) is step = tt

@@ -49,6 +49,11 @@ HasNoDatabase image =
 abbrev pub HasNoTable : Image → Type 0
 HasNoTable image = HasNoDatabase image ⊎ ((db : Trees) × HoldsDatabase image db × IsSound empty_schema db)
 
+-- the files contain a database, and one has the table of the lines and nothing else
+pub record IsLineFile (image : Image) : Type 0 where
+  pub some : ¬ HasNoTable image
+  pub table : (db : Trees) (schema : Schema) → HoldsDatabase image db → IsSound schema db → schema ≡ line_schema
+
 -- a database in the files has the table of the lines and nothing else, or no table
 abbrev pub IsLineFileOrEmpty : Image → Type 0
 IsLineFileOrEmpty image =

@@ -1,5 +1,9 @@
 //! The errors of a file of lines.
+use crate::damage::Damage;
 use sqlite::{Error as SqliteError, ErrorCode};
+use std::alloc::AllocError;
+use std::io;
+use std::io::ErrorKind;
 use thiserror::Error;
 
 /// The reason why a file of lines isn't opened, read or written.
@@ -8,12 +12,33 @@ pub enum LineFileError {
     /// Another process has the file open.
     #[error("another process has the file open")]
     Busy,
-    /// The file can't be opened or created at this path.
+    /// The file can't be opened or created at this path, for a cause that isn't named below.
     #[error("cannot open the file")]
     CannotOpen,
+    /// There is no file at this path.
+    #[error("no such file")]
+    NotFound,
+    /// The process may not read or write the file, or create it in its folder.
+    #[error("permission denied")]
+    NoPermission,
+    /// The path is that of a folder.
+    #[error("is a directory")]
+    IsDirectory,
+    /// The path is that of a pipe, a socket or a device.
+    #[error("not a regular file")]
+    NotRegular,
+    /// The file system is mounted read-only.
+    #[error("read-only file system")]
+    ReadOnly,
+    /// The file or its log is damaged, and an open would lose lines.
+    #[error("{0}")]
+    DamagedFiles(Damage),
     /// The file is a database of another program.
     #[error("the file belongs to another program")]
     ForeignFile,
+    /// The file is empty, or a database without tables.
+    #[error("the file is empty")]
+    Empty,
     /// The file is no database, or it is damaged.
     #[error("the file is damaged or no database")]
     Damaged,
@@ -66,5 +91,24 @@ impl From<SqliteError> for LineFileError {
             SqliteError::SqliteFailure(ErrorCode::OutOfMemory) => LineFileError::OutOfMemory,
             _ => LineFileError::StatementRefused,
         }
+    }
+}
+
+impl From<io::Error> for LineFileError {
+    fn from(error: io::Error) -> LineFileError {
+        match error.kind() {
+            ErrorKind::NotFound | ErrorKind::NotADirectory => LineFileError::NotFound,
+            ErrorKind::PermissionDenied => LineFileError::NoPermission,
+            ErrorKind::IsADirectory => LineFileError::IsDirectory,
+            ErrorKind::ReadOnlyFilesystem => LineFileError::ReadOnly,
+            ErrorKind::OutOfMemory => LineFileError::OutOfMemory,
+            _ => LineFileError::CannotOpen,
+        }
+    }
+}
+
+impl From<AllocError> for LineFileError {
+    fn from(_error: AllocError) -> LineFileError {
+        LineFileError::OutOfMemory
     }
 }

@@ -5,19 +5,27 @@
 //! A [`Receipt`] has the lines that were stored and their numbers.
 #![tactic(auto)]
 
+mod contents;
 mod crash;
+mod damage;
 mod error;
+mod files;
 pub mod laws;
 mod line_file;
 mod line_table;
 mod opening;
 mod receipt;
+mod recovery;
 mod restoring;
 mod storing;
 
+pub use contents::{open_contents, open_copy};
 pub use crash::crash_and_reopen;
+pub use damage::{Damage, find_damage};
 pub use error::LineFileError;
+pub use files::{FileContents, check_files, named_cause, read_files};
 pub use line_file::{LineFile, UnreadFile};
 pub use opening::{adopt, close, open_or_create};
 pub use receipt::Receipt;
+pub use recovery::{open_sound_copy, sound_contents};
 pub use restoring::LineSink;

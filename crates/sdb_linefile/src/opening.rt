@@ -11,6 +11,7 @@ ghost use Rattle.sdb_linefile.specs.LineTable.{line_schema, empty_schema};
 ghost use Rattle.sdb_linefile.specs.LineFile.{AdoptsLines, FilesContain, HasNoTable, IsLineFileOrEmpty, IsUnreadFileOf, unread_state};
 
 use crate::error::LineFileError;
+use crate::files::{check_files, named_cause};
 use crate::line_file::{LineFile, UnreadFile};
 use crate::line_table::{create_table, is_empty_schema, is_line_schema};
 use sqlite::{Alter, Connection, FileFrom, FileStore, Start};
@@ -23,6 +24,7 @@ use sqlite::{Alter, Connection, FileFrom, FileStore, Start};
 /// # Errors
 ///
 /// - [`LineFileError::Busy`] if another process has the file open.
+/// - [`LineFileError::DamagedFiles`] if the open would lose lines. Nothing is created or written.
 /// - [`LineFileError::ForeignFile`] if the file is a database of another program. It is unchanged.
 /// - [`LineFileError::Damaged`] if the file is no database, or it is damaged.
 /// - Another [`LineFileError`] if opening or creating fails.
@@ -42,9 +44,10 @@ pub fn open_or_create<S: Start>(
         IsUnreadFileOf [] file) }
     ensures only { IfOk result (λ file. HasCleanDisk (unread_state file) → IsLineFileOrEmpty (image_at S.Start)) }
 {
+    check_files(rt, path)?;
     let conn = match Connection::open_from(rt, path, false, start) {
         Ok(conn) => conn,
-        Err((error, _)) => return Err(LineFileError::from(error)),
+        Err((error, _)) => return Err(named_cause(rt, path, LineFileError::from(error))),
     };
     settle(&conn);
     match adopt(conn) {
@@ -54,7 +57,7 @@ pub fn open_or_create<S: Start>(
 }
 
 // States that each crash of an open store leaves what is committed.
-fn settle<S: Alter>(conn: &Connection<S>)
+pub(crate) fn settle<S: Alter>(conn: &Connection<S>)
     ensures { IsTrue (state S.Store conn.now).is_open → (db : Trees) → (state S.Store conn.now).may_leave db
         → db ≡ (state S.Store conn.now).committed.trees }
 {

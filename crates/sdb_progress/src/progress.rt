@@ -22,17 +22,13 @@ pub struct SaveProgress {
     // The highest number that may be given to a session, and the highest one that is requested.
     reserved_number: AtomicU64,
     requested_number: AtomicU64,
-    // Number of failures since the last round that succeeded.
-    failures: AtomicU64,
     is_closing: AtomicBool,
     // Set once nothing more is saved.
     is_over: AtomicBool,
-    // The thread that saves parks here.
+    // The thread that saves parks here, and the one that waits for its end.
     saver: Parker,
+    ender: Parker,
 }
-
-// Number of failures, one each second, after which clients are closed with 1013.
-const FAILURE_LIMIT: u64 = 30;
 
 impl SaveProgress {
     /// Creates the progress of a journal by which numbers up to `reserved` may be given to sessions.
@@ -43,10 +39,10 @@ impl SaveProgress {
             requested: AtomicU64::new(0),
             reserved_number: AtomicU64::new(reserved),
             requested_number: AtomicU64::new(reserved),
-            failures: AtomicU64::new(0),
             is_closing: AtomicBool::new(false),
             is_over: AtomicBool::new(false),
             saver: Parker::new(),
+            ender: Parker::new(),
         }
     }
 
@@ -81,11 +77,6 @@ impl SaveProgress {
         false
     }
 
-    /// Returns whether rounds have failed for half a minute.
-    pub fn is_failing(&self) -> bool {
-        self.failures.load(Ordering::SeqCst) >= FAILURE_LIMIT
-    }
-
     /// Returns whether nothing more is saved.
     pub fn is_over(&self) -> bool {
         self.is_over.load(Ordering::SeqCst)
@@ -112,24 +103,27 @@ impl SaveProgress {
 
     /// Records that a round is committed, and which numbers are reserved.
     pub fn end_round(&self, round: u64, reserved: u64) {
-        self.failures.store(0, Ordering::SeqCst);
         self.reserved_number.store(reserved, Ordering::SeqCst);
         self.committed.store(round, Ordering::SeqCst);
-    }
-
-    /// Records that a round has failed.
-    pub fn record_failure(&self) {
-        self.failures.fetch_add(1, Ordering::SeqCst);
     }
 
     /// Records that nothing more is saved.
     pub fn end(&self) {
         self.is_over.store(true, Ordering::SeqCst);
+        self.ender.unpark();
     }
 
     /// Returns the highest number that is to be reserved.
     pub fn requested_number(&self) -> u64 {
         self.requested_number.load(Ordering::SeqCst)
+    }
+
+    /// Waits until nothing more is saved, at most this long. Returns whether that is so.
+    pub fn wait_end<R: Wait>(&self, rt: &R, longest: Duration) -> bool {
+        if !self.is_over() {
+            self.ender.park_timeout(rt, longest);
+        }
+        self.is_over()
     }
 
     /// Waits for a request, at most a second.

@@ -8,7 +8,7 @@ use Rattle.std.proofs.MapsCrossing as maps
 use Rattle.sdb_projection.specs.contracts.table.Table as Table
 use Rattle.sdb_backend.specs.contracts.unsaved.EntryAt as EntryAt
 use Rattle.sdb_backend.proofs.SendSync.{Pass-send}
-use Rattle.sdb_event_loop.proofs.SendSync.{LoopServer-send, LoopServer-sync}
+use Rattle.sdb_connection.proofs.SendSync.{LoopServer-send, LoopServer-sync}
 use Rattle.sdb_progress.specs.contracts.progress.SaveProgress as SaveProgress
 use Rattle.sdb_store.specs.contracts.saver.Saver as Saver
 use Rattle.sdb_server_cli.specs.contracts.stored.SavingThread as SavingThread

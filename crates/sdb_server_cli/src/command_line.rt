@@ -1,6 +1,6 @@
 //! The command line and its run.
 use crate::clients::serve_clients;
-use crate::options::{Options, RunMode, parse_options};
+use crate::options::{Options, RunMode, StorePaths, parse_options};
 use crate::projection_option::ProjectionOptionError;
 use sdb_cli::{STATUS_OK, exit_status, print_help_or_error, print_refusal};
 use sdb_lines::{CountingReader, CountingWriter, RunFault};
@@ -15,15 +15,15 @@ use std::sync::Wait;
 use std::thread::Threads;
 use std::time::Clock;
 
-const NO_STORE: &str = "error: --check, --dump and --load need --store";
+const NO_STORE: &str = "error: --check, --dump, --load and --recover need --store";
 
 const NO_FILE: &str = "error: --store is an option of the program that opens files";
 
 /// The outcome of parsing a command line.
 #[derive(Drop)]
 pub enum ParsedArgs {
-    /// A run in this mode with these projections, and with the store at this path if there is one.
-    Run(RunMode, Table, Option<String>),
+    /// A run in this mode with these projections, and with the store at these paths if there is one.
+    Run(RunMode, Table, Option<StorePaths>),
     /// No run; the program ends with this exit status.
     Help(u8),
 }
@@ -93,7 +93,9 @@ where
             until,
             options,
         } => serve_clients(rt, address, until, options, table),
-        RunMode::Check | RunMode::Dump | RunMode::Load => Ok(print_refusal(&rt, NO_STORE)?),
+        RunMode::Check | RunMode::Dump | RunMode::Load | RunMode::Recover => {
+            Ok(print_refusal(&rt, NO_STORE)?)
+        }
     }
 }
 

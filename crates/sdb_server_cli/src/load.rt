@@ -3,7 +3,7 @@ ghost use Rattle.std.specs.Prelude.{OnOk};
 ghost use Rattle.sdb_store.specs.RestorerModel.{IsRestorer};
 
 use crate::store_file::print_store_fault;
-use crate::store_task::print_accepted;
+use crate::store_task::{ACCEPTED, print_counts};
 use sdb_backend::Counts;
 use sdb_dump::DumpFault;
 use sdb_linefile::{LineFile, LineFileError, LineSink, UnreadFile};
@@ -15,11 +15,13 @@ use std::io::BufRead;
 // The first line of a dump in version 2.
 const HEADER: &[u8] = b"{\"dump\":2}";
 
-/// The entries of a dump that was checked.
+/// The lines of a dump that was checked, or of a store that is recovered.
 #[derive(Drop)]
 pub struct LoadedDump {
-    lines: Vec<Vec<u8>>,
-    counts: Counts,
+    pub(crate) lines: Vec<Vec<u8>>,
+    pub(crate) counts: Counts,
+    // What was done with the entries.
+    pub(crate) verb: &'static str,
 }
 
 // Reads the lines of a dump.
@@ -119,6 +121,7 @@ where
         Ok(restored) => Ok(LoadedDump {
             lines,
             counts: restored.backend.counts(),
+            verb: ACCEPTED,
         }),
         Err(fault) => Err(dump.fault(fault)),
     }
@@ -150,7 +153,11 @@ fn read_entries<I: BufRead>(
 }
 
 // Appends a copy of the line.
-fn push_copy(alloc: Global, lines: &mut Vec<Vec<u8>>, line: &[u8]) -> Result<(), AllocError> {
+pub(crate) fn push_copy(
+    alloc: Global,
+    lines: &mut Vec<Vec<u8>>,
+    line: &[u8],
+) -> Result<(), AllocError> {
     let mut copy = Vec::with_capacity(alloc, line.len())?;
     copy.extend_from_slice(line)?;
     lines.push(copy)?;
@@ -173,9 +180,13 @@ impl LineSink for NoLines {
     }
 }
 
-/// Stores the entries of a dump in a file without lines, in one transaction, and prints their
-/// number. Returns the exit status, and the file if they were stored.
-pub(crate) fn store_dump<R, S>(
+/// Stores lines in a file without lines, in one transaction, and prints the numbers of their
+/// documents and entries. Returns the exit status, and the file if they were stored.
+///
+/// # Errors
+///
+/// The error of printing a line.
+pub fn store_dump<R, S>(
     rt: &R,
     file: UnreadFile<S>,
     dump: LoadedDump,
@@ -184,9 +195,13 @@ where
     R: Print + Eprint,
     S: Alter + Drop,
 {
-    let LoadedDump { lines, counts } = dump;
+    let LoadedDump {
+        lines,
+        counts,
+        verb,
+    } = dump;
     match store_lines(file, lines) {
-        Ok(file) => Ok((print_accepted(rt, counts)?, Some(file))),
+        Ok(file) => Ok((print_counts(rt, verb, counts)?, Some(file))),
         Err(error) => Ok((print_store_fault(rt, error)?, None)),
     }
 }

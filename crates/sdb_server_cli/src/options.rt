@@ -26,6 +26,9 @@ const CHECK_HELP: &str =
 
 const LOAD_HELP: &str = "With --store, store the dump at standard input in a new file";
 
+const RECOVER_HELP: &str =
+    "With --store, store what is left of the damaged file in the new file NEW";
+
 const NO_ADDRESS: &str = "error: --listen takes an address, such as 127.0.0.1:8080";
 
 const NO_DUMP: &str = "error: --dump of a store takes no --listen";
@@ -69,7 +72,9 @@ fn with_store_options<'a>(alloc: Global, command: Command<'a>) -> Result<Command
     let check = store_task_option(alloc, "check", CHECK_HELP)?;
     let load = store_task_option(alloc, "load", LOAD_HELP)?;
     let check = check.conflicts_with("load")?;
-    command.arg(store_option(alloc))?.arg(check)?.arg(load)
+    let recover = recover_option(alloc)?;
+    let command = command.arg(store_option(alloc))?.arg(check)?.arg(load)?;
+    command.arg(recover)
 }
 
 fn lines_option<'a>(alloc: Global) -> Result<Arg<'a>, AllocError> {
@@ -159,6 +164,21 @@ fn store_task_option<'a>(
         .long(name)
         .help(help)
         .action(ArgAction::SetTrue);
+    as_store_task(task)
+}
+
+fn recover_option<'a>(alloc: Global) -> Result<Arg<'a>, AllocError> {
+    let recover = Arg::new(alloc, "recover")
+        .long("recover")
+        .value_name("NEW")
+        .help(RECOVER_HELP)
+        .action(ArgAction::Set);
+    let recover = as_store_task(recover)?;
+    recover.conflicts_with("check")?.conflicts_with("load")
+}
+
+// Makes an option a task on a store, beside which the server does nothing else.
+fn as_store_task<'a>(task: Arg<'a>) -> Result<Arg<'a>, AllocError> {
     let task = task.requires_arg("store")?.conflicts_with("dump")?;
     let task = task.conflicts_with("projection")?;
     task.conflicts_with("lines")?.conflicts_with("listen")
@@ -176,7 +196,8 @@ fn projection_option<'a>(alloc: Global) -> Arg<'a> {
 fn job_group<'a>(alloc: Global) -> Result<ArgGroup<'a>, AllocError> {
     let job = ArgGroup::new(alloc, "job").required(true).multiple(true);
     let job = job.arg("lines")?.arg("listen")?;
-    job.arg("check")?.arg("dump")?.arg("load")
+    let job = job.arg("check")?.arg("dump")?;
+    job.arg("load")?.arg("recover")
 }
 
 // Creates the group of options of which `--dump` requires one.
@@ -185,7 +206,7 @@ fn dump_group<'a>(alloc: Global) -> Result<ArgGroup<'a>, AllocError> {
     dumped.arg("until-eof")?.arg("store")
 }
 
-/// The mode in which the program runs. The last three need a store.
+/// The mode in which the program runs. The last four need a store.
 #[derive(Clone, Copy, PartialEq, Eq, Drop)]
 pub enum RunMode {
     /// One session of lines on standard input and output.
@@ -205,6 +226,15 @@ pub enum RunMode {
     Dump,
     /// The storing of the dump at standard input in a new store.
     Load,
+    /// The storing of what is left of a store in a new one.
+    Recover,
+}
+
+impl RunMode {
+    /// Returns whether the program only reads a copy of the store.
+    pub fn reads_copy(self) -> bool {
+        matches!(self, RunMode::Check | RunMode::Dump)
+    }
 }
 
 /// The options of a command line.
@@ -214,8 +244,17 @@ pub struct Options {
     pub job: Result<RunMode, &'static str>,
     /// The projections, or the reason why one of them is refused.
     pub table: Result<Table, ProjectionOptionError>,
-    /// The path of the file that keeps the documents, if they aren't in memory only.
-    pub store: Option<String>,
+    /// The files that keep the documents, if they aren't in memory only.
+    pub store: Option<StorePaths>,
+}
+
+/// The paths of the files of a store.
+#[derive(Drop)]
+pub struct StorePaths {
+    /// The path of the file that keeps the documents.
+    pub file: String,
+    /// The path of the new file for what is left of that file, with `--recover`.
+    pub recovered: Option<String>,
 }
 
 /// Parses the options of a command line whose first word is the name of the program.
@@ -226,15 +265,24 @@ pub struct Options {
 /// allocation fails.
 pub fn parse_options(alloc: Global, words: &[String]) -> Result<Options, Error> {
     let matches = command(alloc)?.try_get_matches_from(words)?;
-    let store = match matches.get_str("store") {
-        Some(path) => Some(String::from_str(alloc, path)?),
-        None => None,
-    };
+    let store = parse_store(alloc, &matches)?;
     Ok(Options {
         job: parse_job(&matches),
         table: table_of(alloc, matches.get_strs("projection").unwrap_or(&[])),
         store,
     })
+}
+
+fn parse_store(alloc: Global, matches: &ArgMatches<'_>) -> Result<Option<StorePaths>, AllocError> {
+    let Some(path) = matches.get_str("store") else {
+        return Ok(None);
+    };
+    let file = String::from_str(alloc, path)?;
+    let recovered = match matches.get_str("recover") {
+        Some(path) => Some(String::from_str(alloc, path)?),
+        None => None,
+    };
+    Ok(Some(StorePaths { file, recovered }))
 }
 
 fn parse_job(matches: &ArgMatches<'_>) -> Result<RunMode, &'static str> {
@@ -269,6 +317,9 @@ fn parse_other_job(matches: &ArgMatches<'_>) -> RunMode {
     }
     if matches.get_flag("load") {
         return RunMode::Load;
+    }
+    if matches.contains_id("recover") {
+        return RunMode::Recover;
     }
     RunMode::Lines
 }

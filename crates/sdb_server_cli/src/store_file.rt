@@ -9,8 +9,14 @@ use sdb_store::{LineWriter, RestoreFault, RestoredBackend, Restorer, WriteFault}
 use sqlite::Alter;
 use std::alloc::Global;
 
-/// Prints why a file isn't used as a store, and returns the exit status.
-pub fn print_store_fault(rt: &impl Eprint, error: LineFileError) -> anyhow::Result<u8> {
+/// Prints why the file at a path isn't used as a store, and returns the exit status.
+pub fn print_file_fault(rt: &impl Eprint, path: &str, error: LineFileError) -> anyhow::Result<u8> {
+    eprintln!(rt; "store: {path}: {error}")?;
+    Ok(STATUS_FAULT)
+}
+
+/// Prints why an open file isn't used as a store any more, and returns the exit status.
+pub(crate) fn print_store_fault(rt: &impl Eprint, error: LineFileError) -> anyhow::Result<u8> {
     eprintln!(rt; "store: {error}")?;
     Ok(STATUS_FAULT)
 }

@@ -3,12 +3,12 @@
 use crate::close::print_audit;
 use crate::load::{LoadedDump, read_dump, store_dump};
 use crate::options::RunMode;
-use crate::store_file::{print_store_fault, restore, restore_lines};
+use crate::store_file::{print_file_fault, restore, restore_lines};
 use crate::stored::serve_file;
 use crate::stored_lines::answer_stored;
 use sdb_backend::Counts;
-use sdb_cli::{STATUS_FAULT, STATUS_OK};
-use sdb_linefile::{LineFile, LineFileError, UnreadFile};
+use sdb_cli::STATUS_OK;
+use sdb_linefile::{LineFile, UnreadFile};
 use sdb_projection::Table;
 use sqlite::Alter;
 use std::fs;
@@ -19,21 +19,20 @@ use std::sync::Wait;
 use std::thread::Threads;
 use std::time::Clock;
 
-/// What is done with a store.
+/// The verb of entries that were accepted.
+pub(crate) const ACCEPTED: &str = "accepted";
+
+/// What is done with a store that is open.
 #[derive(Drop)]
 pub enum StoreJob {
     /// Clients, or a session of lines, are served, and each stored operation is saved in the file.
     Serve(RunMode, Table),
-    /// The file is read and checked.
-    Check,
-    /// The dump of the file is written to standard output.
-    Dump,
     /// The entries of a dump are stored in the file, which must be new.
     Load(LoadedDump),
 }
 
-/// Returns what is done with the store at a path in this mode. The file to check or dump must exist;
-/// that of a load must not, and the dump is read. Otherwise prints why not, and returns `None`.
+/// Returns what is done with the store at a path in this mode. The file of a load must not exist, and
+/// the dump is read. Otherwise prints why not, and returns `None`.
 ///
 /// # Errors
 ///
@@ -48,24 +47,9 @@ where
     R: AllocGlobal + Input<Reader = StdinLock<'static>> + Eprint + Files + Copy + Drop,
 {
     match mode {
-        RunMode::Lines | RunMode::Listen { .. } => Ok(Some(StoreJob::Serve(mode, table))),
-        RunMode::Check => prepare_reading(&rt, path, StoreJob::Check),
-        RunMode::Dump => prepare_reading(&rt, path, StoreJob::Dump),
         RunMode::Load => prepare_load(rt, path),
+        _ => Ok(Some(StoreJob::Serve(mode, table))),
     }
-}
-
-// Returns the job if its file exists.
-fn prepare_reading<R: Eprint + Files>(
-    rt: &R,
-    path: &str,
-    job: StoreJob,
-) -> anyhow::Result<Option<StoreJob>> {
-    if fs::exists(rt, path)? {
-        return Ok(Some(job));
-    }
-    print_store_fault(rt, LineFileError::CannotOpen)?;
-    Ok(None)
 }
 
 // Reads the dump, unless its file exists.
@@ -104,8 +88,6 @@ where
 {
     match job {
         StoreJob::Serve(mode, table) => serve_stored(rt, file, mode, table),
-        StoreJob::Check => Ok((check_file(rt, file)?, None)),
-        StoreJob::Dump => Ok((dump_file(&rt, file)?, None)),
         StoreJob::Load(dump) => store_dump(&rt, file, dump),
     }
 }
@@ -133,33 +115,50 @@ where
     }
 }
 
+/// Checks a copy of the store at a path, or writes its dump to standard output. Returns the exit
+/// status.
+///
+/// # Errors
+///
+/// The error of writing the answer.
+pub fn read_copy<R, S>(rt: R, path: &str, copy: UnreadFile<S>, mode: RunMode) -> anyhow::Result<u8>
+where
+    R: AllocGlobal + Print + Eprint + Copy + Drop,
+    S: Alter + Drop,
+{
+    match mode {
+        RunMode::Dump => dump_file(&rt, path, copy),
+        _ => check_file(rt, path, copy),
+    }
+}
+
 // Restores the file, and prints its numbers of documents and entries. Returns the exit status.
-fn check_file<R, S>(rt: R, file: UnreadFile<S>) -> anyhow::Result<u8>
+fn check_file<R, S>(rt: R, path: &str, file: UnreadFile<S>) -> anyhow::Result<u8>
 where
     R: AllocGlobal + Print + Eprint + Copy + Drop,
     S: Alter + Drop,
 {
     match restore(rt, file) {
-        Ok((_, restored)) => print_accepted(&rt, restored.backend.counts()),
-        Err(error) => print_store_fault(&rt, error),
+        Ok((_, restored)) => print_counts(&rt, ACCEPTED, restored.backend.counts()),
+        Err(error) => print_file_fault(&rt, path, error),
     }
 }
 
-/// Prints the numbers of documents and entries that were accepted, and returns the exit status.
-pub(crate) fn print_accepted(rt: &impl Print, counts: Counts) -> anyhow::Result<u8> {
+/// Prints what was done with these numbers of documents and entries, and returns the exit status.
+pub(crate) fn print_counts(rt: &impl Print, verb: &str, counts: Counts) -> anyhow::Result<u8> {
     let Counts { documents, entries } = counts;
-    println!(rt; "accepted {documents} documents, {entries} entries")?;
+    println!(rt; "{verb} {documents} documents, {entries} entries")?;
     Ok(STATUS_OK)
 }
 
 // Restores the file, and writes its dump. Returns the exit status.
-fn dump_file<R, S>(rt: &R, file: UnreadFile<S>) -> anyhow::Result<u8>
+fn dump_file<R, S>(rt: &R, path: &str, file: UnreadFile<S>) -> anyhow::Result<u8>
 where
     R: AllocGlobal + Print + Eprint,
     S: Alter + Drop,
 {
     match restore_lines(rt.alloc(), file) {
         Ok((_, restorer)) => print_audit(rt, &restorer.into_audit(), true),
-        Err(error) => print_store_fault(rt, error),
+        Err(error) => print_file_fault(rt, path, error),
     }
 }

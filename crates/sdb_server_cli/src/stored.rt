@@ -20,7 +20,10 @@ use std::net::{Net, SocketAddr, TcpListener, TcpStream};
 use std::sync::{Arc, Wait};
 use std::thread;
 use std::thread::{JoinHandle, Threads};
-use std::time::Clock;
+use std::time::{Clock, Duration};
+
+// Seconds after which a server that can't end says that it still saves.
+const END_SECONDS: u64 = 5;
 
 /// Restores the documents of the file, serves clients, and saves each stored operation in the file
 /// before a client is sent it. Returns the exit status, and the file if it was served.
@@ -179,9 +182,19 @@ where
     let saving = start_saving(rt, &state, saver, writer, &progress)?;
     let served = serve_until(rt, listener, until, &state, &mut host);
     progress.close();
+    let noted = note_long_save(&rt, &progress);
     let (saved, writer) = saving.join(&rt);
+    noted?;
     let status = print_end(&rt, until, saved, served, state.backend().counts())?;
     Ok((status, writer))
+}
+
+// Prints a line if the last operations take long to be saved.
+fn note_long_save<R: Eprint + Wait>(rt: &R, progress: &SaveProgress) -> anyhow::Result<()> {
+    if !progress.wait_end(rt, Duration::from_secs(END_SECONDS)) {
+        eprintln!(rt; "store: the last operations are still being saved")?;
+    }
+    Ok(())
 }
 
 // Returns the number of sessions after which the server is stopped.

@@ -3,9 +3,10 @@
 #![tactic(auto)]
 
 use sdb_cli::STATUS_FAULT;
-use sdb_linefile::{close, open_or_create};
+use sdb_linefile::{close, open_copy, open_or_create, open_sound_copy};
 use sdb_server_cli::{
-    ParsedArgs, parse_run, prepare_job, print_closed, print_store_fault, run_mode, run_stored,
+    LoadedDump, ParsedArgs, RunMode, StorePaths, parse_run, prepare_job, prepare_recovery,
+    print_closed, print_file_fault, read_copy, recover_lines, run_mode, run_stored, store_dump,
 };
 use sqlite::Unknown;
 use std::env;
@@ -17,15 +18,27 @@ fn main(rt: HostRuntime) -> anyhow::Result<ExitCode> {
         ParsedArgs::Run(mode, table, store) => (mode, table, store),
         ParsedArgs::Help(status) => return Ok(ExitCode::from(status)),
     };
-    let Some(path) = store else {
+    let Some(
+        StorePaths {
+            file: path,
+            recovered,
+        },
+    ) = store
+    else {
         return Ok(ExitCode::from(run_mode(rt, mode, table)?));
     };
+    if let Some(new) = recovered {
+        return Ok(ExitCode::from(recover_store(&rt, path.as_str(), new.as_str())?));
+    }
+    if mode.reads_copy() {
+        return Ok(ExitCode::from(read_store(&rt, path.as_str(), mode)?));
+    }
     let Some(job) = prepare_job(rt, path.as_str(), mode, table)? else {
         return Ok(ExitCode::from(STATUS_FAULT));
     };
     let file = match open_or_create(&rt, path.as_str(), Unknown) {
         Ok(file) => file,
-        Err(error) => return Ok(ExitCode::from(print_store_fault(&rt, error)?)),
+        Err(error) => return Ok(ExitCode::from(print_file_fault(&rt, path.as_str(), error)?)),
     };
     let (status, file) = run_stored(rt, file, job)?;
     let closed = match file {
@@ -33,4 +46,41 @@ fn main(rt: HostRuntime) -> anyhow::Result<ExitCode> {
         None => Ok(()),
     };
     Ok(ExitCode::from(print_closed(&rt, status, closed)?))
+}
+
+// Reads a copy of the store, and returns the exit status. Nothing is created or written.
+fn read_store(rt: &HostRuntime, path: &str, mode: RunMode) -> anyhow::Result<u8> {
+    match open_copy(rt, path) {
+        Ok(copy) => read_copy(*rt, path, copy, mode),
+        Err(error) => print_file_fault(rt, path, error),
+    }
+}
+
+// Stores what is left of a store in a new one, and returns the exit status.
+fn recover_store(rt: &HostRuntime, path: &str, new: &str) -> anyhow::Result<u8> {
+    if !prepare_recovery(rt, new)? {
+        return Ok(STATUS_FAULT);
+    }
+    let copy = match open_sound_copy(rt, path) {
+        Ok(copy) => copy,
+        Err(error) => return print_file_fault(rt, path, error),
+    };
+    match recover_lines(*rt, copy) {
+        Ok(lines) => store_lines(rt, new, lines),
+        Err(error) => print_file_fault(rt, path, error),
+    }
+}
+
+// Stores lines in a new store, and returns the exit status.
+fn store_lines(rt: &HostRuntime, path: &str, lines: LoadedDump) -> anyhow::Result<u8> {
+    let file = match open_or_create(rt, path, Unknown) {
+        Ok(file) => file,
+        Err(error) => return print_file_fault(rt, path, error),
+    };
+    let (status, file) = store_dump(rt, file, lines)?;
+    let closed = match file {
+        Some(file) => close(file),
+        None => Ok(()),
+    };
+    print_closed(rt, status, closed)
 }

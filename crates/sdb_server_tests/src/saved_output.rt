@@ -5,9 +5,10 @@ ghost use Rattle.sdb_backend.specs.declared.pass.Host.{Host as HostState};
 ghost use Rattle.sdb_event_loop.specs.LoopModel.{IsHostOfLoops};
 
 use crate::clients::{Client, FIRST_INIT, connect_websocket, expect_close, expect_text, send_text};
-use crate::connections::{CREATE, CREATED, FETCH, SECOND_INIT, SUBSCRIBE, SUBSCRIBED};
+use crate::connections::{CREATE, CREATED, SECOND_INIT, SUBSCRIBE, SUBSCRIBED};
 use sdb_backend::Backend;
 use sdb_event_loop::{LoopOptions, LoopServer, listen_on_loops};
+use sdb_link::{Deadlines, DueAction, SessionEnd};
 use sdb_progress::SaveProgress;
 use sdb_projection::Table;
 use std::alloc::{AllocError, Global};
@@ -34,8 +35,13 @@ const QUIET_MS: u64 = 300;
 // The read timeout of a client, and the longest wait for a request, in seconds.
 const PATIENCE_SECONDS: u64 = 20;
 
-// The number of failures, one each second, after which sessions are closed.
-const FAILURE_COUNT: u64 = 30;
+// How a server ends: the last output is saved, nothing more is saved, or the disk doesn't answer.
+#[derive(Clone, Copy, PartialEq, Eq, Debug, Drop)]
+enum Ending {
+    Saved,
+    Over,
+    Hanging,
+}
 
 // Creates the state of a server that has saved nothing.
 fn saving_server<R: Drop>(
@@ -90,9 +96,8 @@ fn expect_once_saved<R: Drop, H: Abort + Wait>(
     expect_text(abort, client, text);
 }
 
-// The first client gets no session before its number is reserved, and each answer once it is saved. If
-// saving fails for long it is closed, and the answer that wasn't saved isn't sent.
-fn fail_to_save<R: Drop, H: Abort + Wait>(
+// The first client gets no session before its number is reserved, and each answer once it is saved.
+fn save_answers<R: Drop, H: Abort + Wait>(
     abort: &H,
     alloc: Global,
     progress: &SaveProgress,
@@ -105,13 +110,6 @@ fn fail_to_save<R: Drop, H: Abort + Wait>(
     expect_once_saved(abort, progress, state, client, FIRST_INIT);
     send_text(abort, alloc, client, CREATE);
     expect_once_saved(abort, progress, state, client, CREATED);
-    send_text(abort, alloc, client, FETCH);
-    await_request(abort, progress);
-    for _ in 0..FAILURE_COUNT {
-        progress.record_failure();
-    }
-    state.notify_committed(abort);
-    expect_close(abort, client, CloseCode::Again);
 }
 
 // The session of the second client ends as the server is stopped. Its last answer is sent once it is
@@ -131,19 +129,23 @@ fn save_after_stop<R: Drop, H: Abort + Wait>(
     expect_close(abort, client, CloseCode::Away);
 }
 
-// The session of the second client ends after nothing more is saved. It receives the close alone.
+// The session of the second client ends after nothing more is saved, or while the disk doesn't answer.
+// It receives the close alone.
 fn stop_unsaved<R: Drop, H: Abort + Wait>(
     abort: &H,
     alloc: Global,
     progress: &SaveProgress,
     state: &LoopServer<R, Table>,
     client: &mut Client,
+    ending: Ending,
 ) {
     expect_once_saved(abort, progress, state, client, SECOND_INIT);
     send_text(abort, alloc, client, SUBSCRIBE);
     await_request(abort, progress);
     expect_nothing(abort, client);
-    progress.end();
+    if ending == Ending::Over {
+        progress.end();
+    }
     state.stop(abort);
     expect_close(abort, client, CloseCode::Away);
 }
@@ -155,21 +157,21 @@ fn use_and_stop<R: Drop, H: Abort + Wait>(
     address: SocketAddr,
     progress: &SaveProgress,
     state: &LoopServer<R, Table>,
-    is_saved: bool,
+    ending: Ending,
 ) {
     let mut first = connect_websocket(abort, rt, alloc, address);
-    fail_to_save(abort, alloc, progress, state, &mut first);
-    commit(abort, progress, state);
+    save_answers(abort, alloc, progress, state, &mut first);
+    drop(first);
     let mut second = connect_websocket(abort, rt, alloc, address);
-    if is_saved {
+    if ending == Ending::Saved {
         save_after_stop(abort, alloc, progress, state, &mut second);
     } else {
-        stop_unsaved(abort, alloc, progress, state, &mut second);
+        stop_unsaved(abort, alloc, progress, state, &mut second, ending);
     }
 }
 
-// Serves two clients. `is_saved` says whether operations are saved until the end.
-fn serve_two<R>(rt: R, client_rt: HostRuntime, is_saved: bool) -> Result<(), Fail>
+// Serves two clients.
+fn serve_two<R>(rt: R, client_rt: HostRuntime, ending: Ending) -> Result<(), Fail>
 where
     R: Abort + AllocGlobal + Eprint + Net<Listener = TcpListener, Stream = TcpStream>,
     R: Threads + Wait + Clock + Drop + Copy + Send + Sync + 'static,
@@ -182,7 +184,7 @@ where
     let state = saving_server(alloc, backend, &progress)?;
     let theirs = Arc::try_clone(&state)?;
     let clients = thread::spawn(&rt, move || {
-        use_and_stop(&rt, client_rt, alloc, address, &progress, &theirs, is_saved)
+        use_and_stop(&rt, client_rt, alloc, address, &progress, &theirs, ending)
     })?;
     listen_on_loops(rt, alloc, listener, &state, &mut host)?;
     clients.join(&rt);
@@ -191,10 +193,28 @@ where
 
 #[test]
 fn output_is_held_until_it_is_saved(rt: HostRuntime) -> Result<(), Fail> {
-    serve_two(rt, rt, true)
+    serve_two(rt, rt, Ending::Saved)
 }
 
 #[test]
 fn output_is_discarded_if_nothing_more_is_saved(rt: HostRuntime) -> Result<(), Fail> {
-    serve_two(rt, rt, false)
+    serve_two(rt, rt, Ending::Over)
+}
+
+#[test]
+fn a_stop_closes_clients_while_the_disk_hangs(rt: HostRuntime) -> Result<(), Fail> {
+    serve_two(rt, rt, Ending::Hanging)
+}
+
+#[test]
+fn a_hold_lasts_at_most_half_a_minute(rt: HostRuntime) {
+    let mut deadlines = Deadlines::new(5);
+    deadlines.begin_hold(10);
+    assert!(rt; matches!(deadlines.next_action(39, true), DueAction::Nothing));
+    assert!(rt;
+        matches!(
+            deadlines.next_action(40, true),
+            DueAction::End(SessionEnd::Unsaved)
+        )
+    );
 }

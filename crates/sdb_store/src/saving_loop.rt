@@ -8,10 +8,13 @@ use sdb_backend::Backend;
 use sdb_progress::SaveProgress;
 use std::sync::Wait;
 use std::thread;
-use std::time::{Clock, Duration};
+use std::time::{Clock, Duration, Instant};
 
 // Longest pause in seconds between two rounds.
 const PAUSE_SECONDS: u64 = 1;
+
+// Seconds for which a last round that fails is repeated.
+const LAST_SECONDS: u64 = 3;
 
 /// A listener of rounds. It is notified after each round that was committed or has failed.
 pub trait RoundListener {
@@ -20,8 +23,7 @@ pub trait RoundListener {
 }
 
 /// Saves what the backend lists, in rounds, until the progress is closed and a last round is
-/// committed. A round that fails is repeated after a second, also if the progress is closed, unless
-/// rounds have failed for half a minute.
+/// committed. A round that fails is repeated after a second; a last one for some seconds.
 ///
 /// # Errors
 ///
@@ -38,10 +40,11 @@ pub fn save_until_closed<R: Wait + Clock + Drop, W: LineWriter, L: RoundListener
     requires { IsPassOfBackend (saver_pass saver.old) backend.now }
     ensures { IsPassOfBackend (saver_pass saver.new) backend.now }
 {
+    let mut closing_since = None;
     for _ in rt.forever() {
         let is_last = progress.is_closing();
         let saved = save_once(backend, saver, writer, progress);
-        if is_end(saved, is_last, progress) {
+        if is_end(saved, is_last, is_last && is_late(rt, &mut closing_since)) {
             progress.end();
             listener.notify();
             return saved;
@@ -63,23 +66,30 @@ fn save_once<R: Wait + Drop, W: LineWriter>(
     ensures { IsPassOfBackend (saver_pass saver.new) backend.now }
 {
     let round = progress.begin_round();
-    match saver.save_round(backend, writer, progress.requested_number()) {
-        Ok(()) => {
-            progress.end_round(round, saver.reserved());
-            Ok(())
-        }
-        Err(fault) => {
-            progress.record_failure();
-            Err(fault)
-        }
+    saver.save_round(backend, writer, progress.requested_number())?;
+    progress.end_round(round, saver.reserved());
+    Ok(())
+}
+
+// Returns whether no round follows: the last one is saved, or can't be.
+fn is_end(saved: Result<(), SaveFault>, is_last: bool, is_late: bool) -> bool {
+    match saved {
+        Ok(()) => is_last,
+        Err(fault) => !fault.is_temporary() || is_late,
     }
 }
 
-// Returns whether no round follows.
-fn is_end(saved: Result<(), SaveFault>, is_last: bool, progress: &SaveProgress) -> bool {
-    match saved {
-        Ok(()) => is_last,
-        Err(fault) => !fault.is_temporary() || (is_last && progress.is_failing()),
+// Returns whether the last round has been tried for some seconds.
+fn is_late<R: Clock>(rt: &R, since: &mut Option<Instant>) -> bool {
+    let Ok(now) = Instant::now(rt) else {
+        return true;
+    };
+    match *since {
+        Some(start) => now.saturating_duration_since(start) >= Duration::from_secs(LAST_SECONDS),
+        None => {
+            *since = Some(now);
+            false
+        }
     }
 }
 

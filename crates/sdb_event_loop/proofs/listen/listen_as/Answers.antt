@@ -1,7 +1,7 @@
 use Rattle.std.proofs.Common.{subst, sym}
 use Rattle.sdb_backend.specs.PassModel.{IsPassOfBackend}
 use Rattle.sdb_growlock.specs.LockRule.{ForEach}
-use Rattle.sdb_event_loop.specs.LoopModel.{IsHostOfLoops}
+use Rattle.sdb_connection.specs.LoopModel.{IsHostOfLoops}
 use Rattle.sdb_event_loop.proofs.listen.listen_as.Goals as goal
 
 pub supply_passes-requires : goal.supply_passes-requires

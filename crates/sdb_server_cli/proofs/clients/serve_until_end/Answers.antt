@@ -6,7 +6,7 @@ use Rattle.sdb_projection.specs.contracts.table.Table as Table
 use Rattle.sdb_backend.specs.PassModel.{IsHostOfBackend, IsPassOfBackend}
 use Rattle.sdb_growlock.specs.LockRule.{ForEach}
 use Rattle.sdb_event_loop.specs.LoopModel.{IsHostOfLoops}
-use Rattle.sdb_event_loop.proofs.SendSync.{LoopServer-send, LoopServer-sync}
+use Rattle.sdb_connection.proofs.SendSync.{LoopServer-send, LoopServer-sync}
 use Rattle.sdb_server_cli.proofs.clients.serve_until_end.Goals as goal
 
 Table-send : IsSend Table.the_row

@@ -1,6 +1,6 @@
 use denote.Param.Send.{sendable}
 use Rattle.std.proofs.Crossing.{crosses}
-use Rattle.sdb_event_loop.proofs.SendSync.{LoopServer-send, LoopServer-sync}
+use Rattle.sdb_connection.proofs.SendSync.{LoopServer-send, LoopServer-sync}
 use Rattle.sdb_server_cli.proofs.SendSync.{Table-send, Table-sync}
 use Rattle.sdb_server_cli.proofs.stored.stop_at_end.Goals as goal
 

@@ -5,7 +5,7 @@ use Rattle.std.proofs.MapsCrossing as maps
 use Rattle.sdb_projection.specs.contracts.table.Table as Table
 use Rattle.sdb_backend.specs.PassModel.{IsHostOfBackend, IsPassOfBackend}
 use Rattle.sdb_growlock.specs.LockRule.{ForEach}
-use Rattle.sdb_event_loop.proofs.SendSync.{LoopServer-send, LoopServer-sync}
+use Rattle.sdb_connection.proofs.SendSync.{LoopServer-send, LoopServer-sync}
 use Rattle.sdb_server_tests.proofs.loops.loops_serve_clients_and_return_their_passes.Goals as goal
 
 Table-send : IsSend Table.the_row

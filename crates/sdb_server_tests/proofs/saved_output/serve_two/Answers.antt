@@ -2,7 +2,8 @@ use denote.Param.Send.{IsSend, IsSync, sendable}
 use Rattle.std.proofs.Crossing.{crosses}
 use Rattle.std.proofs.MapsCrossing as maps
 use Rattle.sdb_projection.specs.contracts.table.Table as Table
-use Rattle.sdb_event_loop.proofs.SendSync.{LoopServer-send, LoopServer-sync, SaveProgress-send, SaveProgress-sync}
+use Rattle.sdb_connection.proofs.SendSync.{LoopServer-send, LoopServer-sync}
+use Rattle.sdb_loop_state.proofs.SendSync.{SaveProgress-send, SaveProgress-sync}
 use Rattle.sdb_server_tests.proofs.saved_output.serve_two.Goals as goal
 
 Table-send : IsSend Table.the_row

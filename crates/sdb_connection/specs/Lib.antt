@@ -1,0 +1,3 @@
+pub mod LoopModel
+pub mod PassLocks
+pub mod PassModel

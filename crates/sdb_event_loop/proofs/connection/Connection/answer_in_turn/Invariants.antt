@@ -1,6 +1,0 @@
-use Rattle.sdb_event_loop.specs.PassModel.{KeepsPass}
-use Rattle.sdb_event_loop.proofs.connection.Connection.answer_in_turn.Given as goal
-
-abbrev pub invariant-loop : goal.invariant-loop
-invariant-loop g l =
-    KeepsPass l.context.state.value.backend l.fn.self.pass.pass l.context.state.value.backend l.self.pass.pass

@@ -1,7 +1,0 @@
-use Rattle.std.proofs.Common.{refl}
-use Rattle.sdb_event_loop.proofs.connection.Connection.answer_message.Goals as goal
-
-pub returns-in-Binary : goal.returns-in-Binary
-returns-in-Binary g c =
-    let p = c.answer_binary.new.self.pass in
-    (refl, c.args.context.now.names_backend.0 p.pass p.belongs, c.answer_binary.ensures)

@@ -1,5 +1,0 @@
-use Rattle.sdb_event_loop.specs.LoopModel.{IsHostOfLoops}
-use Rattle.sdb_event_loop.proofs.pass_supply.fill_supply.Given as goal
-
-abbrev pub invariant-loop : goal.invariant-loop
-invariant-loop g l = IsHostOfLoops l.host l.context.state.value
