@@ -1,9 +1,10 @@
 """What an operator reads: /health, /metrics and the log."""
 import json
 import re
+import time
 
 from support.frames import Connection, handshake
-from support.server import END, Server
+from support.server import END, START, Server
 
 JSON0 = "http://sharejs.org/types/JSONv0"
 CREATE = {"a": "op", "c": "b", "d": "1", "v": None, "src": "x", "seq": 1, "create": {"type": JSON0, "data": {"n": 1}}}
@@ -19,17 +20,25 @@ def fetch(server, path, method="GET"):
         while piece := connection.socket.recv(65_536):
             answer += piece
     head, body = answer.decode().split("\r\n\r\n", 1)
-    assert f"Content-Length: {len(body)}" in head.split("\r\n")
+    length = int(re.search(r"^Content-Length: (\d+)$", head.replace("\r", ""), re.M)[1])
+    assert body == "" if method == "HEAD" else len(body) == length
     return int(head.split(" ")[1]), head, body
 
 
 def metrics(server):
+    """Returns each sample of /metrics. Each is one of a metric with a type and a line of help."""
     status, head, body = fetch(server, "/metrics")
     assert status == 200 and "text/plain; version=0.0.4" in head
-    samples = [line for line in body.splitlines() if not line.startswith("#")]
-    types = re.findall(r"^# TYPE (\S+) (?:gauge|counter)$", body, re.M)
-    assert {re.match(r"[a-z_]+", line)[0] for line in samples} == set(types)
-    return {name: int(value) for name, value in (line.rsplit(" ", 1) for line in samples)}
+    samples = dict(line.rsplit(" ", 1) for line in body.splitlines() if not line.startswith("#"))
+    types = dict(re.findall(r"^# TYPE (\S+) (gauge|counter|histogram)$", body, re.M))
+    assert set(re.findall(r"^# HELP (\S+) .*\.$", body, re.M)) == set(types)
+    assert {metric_of(name, types) for name in samples} == set(types)
+    return {name: float(value) for name, value in samples.items()}
+
+
+def metric_of(sample, types):
+    name = re.match(r"[a-z_]+", sample)[0]
+    return name if name in types else re.sub(r"_(bucket|sum|count)$", "", name)
 
 
 def test_health_and_metrics_count_what_the_server_does(program):
@@ -55,11 +64,55 @@ def test_health_and_metrics_count_what_the_server_does(program):
             assert counted['navirotsohy_refusals_total{code="ERR_LIMIT"}'] == 0
             assert counted["navirotsohy_received_bytes_total"] > 400
             assert counted["navirotsohy_sent_bytes_total"] > 200
+            assert counted['navirotsohy_sessions_ended_total{reason="closed"}'] == 0
+            assert abs(counted["process_start_time_seconds"] - time.time()) < START
+            assert "navirotsohy_saving" not in counted
+            with server.connect() as second:
+                second.upgrade()
+                assert second.status() == 1013
+        wait_until(lambda: metrics(server)["navirotsohy_clients"] == 0)
+        counted = metrics(server)
+        assert sum(counted[name] for name in counted if "sessions_ended" in name) == 1
+        assert counted['navirotsohy_clients_refused_total{reason="no_room"}'] == 1
+
+
+def wait_until(holds):
+    end = time.monotonic() + END
+    while not holds():
+        assert time.monotonic() < end
+        time.sleep(0.05)
+
+
+def test_a_store_counts_rounds_and_saved_entries(program, tmp_path):
+    with Server(program, "--store", str(tmp_path / "store")) as server:
+        with server.enter() as client:
+            client.ask(CREATE)
+            client.ask(EDIT)
+        health = json.loads(fetch(server, "/health")[2])
+        assert (health["saving"], health["entries"]) == (True, 2)
+        counted = metrics(server)
+        assert (counted["navirotsohy_saving"], counted["navirotsohy_unsaved_entries"]) == (1, 0)
+        assert (counted["navirotsohy_entries"], counted["navirotsohy_save_failures_total"]) == (2, 0)
+        assert counted["navirotsohy_rounds_total"] == counted["navirotsohy_round_seconds_count"] >= 2
+        assert counted["navirotsohy_round_entries_sum"] == 2
+        assert counted["navirotsohy_hold_seconds_count"] >= 2
+        for name in ["round_seconds", "round_entries", "hold_seconds"]:
+            buckets = [counted[it] for it in counted if it.startswith(f"navirotsohy_{name}_bucket")]
+            assert len(buckets) == 13 and buckets == sorted(buckets)
+            assert buckets[-1] == counted[f"navirotsohy_{name}_count"]
+
+
+def test_queries_and_heads_are_answered(program):
+    with Server(program) as server:
+        assert json.loads(fetch(server, "/health?a=1&b")[2])["documents"] == 0
+        assert "navirotsohy_entries 0" in fetch(server, "/metrics?a")[2]
+        for path in ["/health", "/metrics"]:
+            assert fetch(server, path, "HEAD")[0] == 200
 
 
 def test_other_requests_need_an_upgrade(program):
     with Server(program) as server:
-        for method, path in [("GET", "/"), ("POST", "/health"), ("HEAD", "/metrics"), ("GET", "/health/"), ("GET", "/metrics?a")]:
+        for method, path in [("GET", "/"), ("POST", "/health"), ("HEAD", "/"), ("GET", "/health/"), ("GET", "/?/health")]:
             assert fetch(server, path, method)[0] == 426
 
 

@@ -89,6 +89,12 @@ def test_a_wrong_dump_creates_no_file(program, tmp_path, cut, wrong):
     assert not second.exists()
 
 
+def test_a_dump_has_no_block_of_numbers(program, tmp_path):
+    dump = '{"dump":2}\n{"given":7}\n{"entries":0}\n'
+    assert ended(program, "--store", str(tmp_path / "store"), "--load", text=dump) == (1, "", "load: wrong at line 2\n")
+    assert not list(tmp_path.iterdir())
+
+
 @pytest.mark.parametrize("task", ["--check", "--dump"])
 def test_a_missing_file_is_not_created(program, tmp_path, task):
     assert ended(program, "--store", str(tmp_path / "store"), task) == (1, "", f"store: {tmp_path}/store: no such file\n")

@@ -1,7 +1,9 @@
 """The server with --store: its program is killed, its file is damaged, and the disk is full."""
+import json
 import os
 import pathlib
 import random
+import re
 import resource
 import shutil
 import signal
@@ -280,6 +282,80 @@ def test_answers_wait_while_the_disk_is_full(program, tmp_path):
             time.sleep(2)
         limit_files(server.process.pid, resource.RLIM_INFINITY)
         assert connection.message()["v"] == 1
+
+
+def health(server):
+    """Returns the status and the content of /health."""
+    with server.connect() as connection:
+        connection.send(b"GET /health HTTP/1.1\r\nHost: localhost\r\n\r\n")
+        answer = b""
+        while piece := connection.socket.recv(65_536):
+            answer += piece
+    return int(answer.split(b" ")[1]), json.loads(answer.split(b"\r\n\r\n")[1])
+
+
+def test_an_operator_sees_that_saving_fails(program, tmp_path):
+    server = Server(program, "--store", str(tmp_path / "store"), restore_signals=False)
+    with server, server.enter() as connection:
+        editor = Editor(server.address, "1", "x")
+        editor.sent = 1
+        editor.version = connection.ask(editor.message())["v"] + 1
+        assert health(server)[0] == 200
+        limit_files(server.process.pid, 0)
+        start = time.time()
+        editor.sent = 2
+        connection.send(text(editor.message()))
+        wait_until(lambda: health(server)[0] == 503)
+        found = health(server)[1]
+        assert (found["saving"], found["entries"]) == (False, 1) and found["reason"].startswith("the disk")
+        assert start - 2 < found["since"] <= time.time()
+        time.sleep(1.5)
+        assert health(server)[1]["since"] == found["since"]
+        limit_files(server.process.pid, resource.RLIM_INFINITY)
+        assert connection.message()["v"] == 1
+        assert health(server) == (200, {**health(server)[1], "saving": True, "entries": 2})
+        server.process.terminate()
+        lines = server.process.communicate(timeout=END)[1].splitlines()
+        assert lines[0] == f"store: operations aren't saved: {found['reason']}"
+        assert re.fullmatch(r"store: operations are saved again, after \d+ seconds", lines[1])
+        assert len(lines) == 2
+
+
+def wait_until(holds):
+    end = time.monotonic() + END
+    while not holds():
+        assert time.monotonic() < end
+        time.sleep(0.05)
+
+
+# A file that is moved -------------------------------------------------------------------------------------
+
+
+@pytest.mark.parametrize("change", ["moved", "removed", "replaced"])
+def test_a_server_whose_file_is_moved_ends(program, tmp_path, change):
+    file = tmp_path / "store"
+    server = Server(program, "--store", str(file))
+    with server, server.enter() as connection:
+        editor = Editor(server.address, "1", "x")
+        editor.sent = 1
+        connection.ask(editor.message())
+        if change == "moved":
+            file.rename(tmp_path / "moved")
+        else:
+            file.unlink()
+        if change == "replaced":
+            file.write_bytes(b"")
+        assert server.process.wait(timeout=END) == 1
+        assert server.process.stderr.read() == "store: the file was moved or removed\n"
+
+
+def test_a_refused_start_creates_nothing(program, tmp_path):
+    file = tmp_path / "store"
+    command = [program, "--listen", "127.0.0.1:0", "--until-eof", "--store", str(file)]
+    closed = ["sh", "-c", 'exec "$@" <&-', "sh", *map(str, command)]
+    ended = subprocess.run(closed, capture_output=True, text=True, timeout=END, check=False)
+    assert ended.returncode == 2 and ended.stderr.startswith("error: cannot read standard input")
+    assert list(tmp_path.iterdir()) == []
 
 
 def limit_files(process, size):

@@ -183,7 +183,7 @@ impl<B: PassBrand> Connection<B> {
     {
         let is_released = self.link.release(progress);
         if is_released {
-            self.deadlines.end_hold(time.second);
+            progress.record().add_hold(self.deadlines.end_hold(time));
         }
         is_released
     }
@@ -250,7 +250,7 @@ impl<B: PassBrand> Connection<B> {
         let is_sent = self.link.send(&mut output.bytes, ticket).is_ok();
         self.deadlines.record_write(time.second);
         if self.link.is_held() {
-            self.deadlines.begin_hold(time.second);
+            self.deadlines.begin_hold(time);
         }
         if is_sent {
             Ok(())

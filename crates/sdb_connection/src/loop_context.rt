@@ -5,7 +5,7 @@ ghost use Rattle.sdb_connection.specs.PassLocks.{NamesBackend};
 use crate::loop_pass::{LoopPass, PassBrand};
 use crate::loop_server::LoopServer;
 use crate::pass_supply::PassSupply;
-use sdb_link::{ServerStatus, Tally};
+use sdb_link::{LoopTime, ServerStatus, Tally};
 use sdb_loop_state::{DocumentGroup, LoopState};
 use sdb_session::Policy;
 use std::alloc::{AllocError, Global};
@@ -61,9 +61,9 @@ impl<R, P, B: PassBrand> LoopContext<R, P, B> {
         self.state.metrics.add(tally);
     }
 
-    /// Returns the state of the server, which has been listening for this number of seconds.
-    pub fn status(&self, uptime: u64) -> ServerStatus {
-        self.state.status(uptime)
+    /// Returns the state of the server at this time of a loop.
+    pub fn status(&self, time: LoopTime) -> ServerStatus {
+        self.state.status(time)
     }
 }
 

@@ -5,7 +5,7 @@ ghost use Rattle.sdb_backend.specs.declared.pass.Host.{Host as HostState};
 ghost use Rattle.sdb_connection.specs.LoopModel.{IsHostOfLoops, loops_backend};
 
 use sdb_backend::Backend;
-use sdb_link::{Metrics, ServerStatus};
+use sdb_link::{LoopTime, Metrics, ServerStatus};
 use sdb_loop_state::{LoopOptions, LoopState};
 use sdb_progress::SaveProgress;
 use std::alloc::{AllocError, Global};
@@ -95,8 +95,8 @@ impl<R: Drop, P: Drop> LoopServer<R, P> {
     /// - The output of a client's turn is held until a round is committed that began after the turn.
     ///   Meanwhile the client isn't read from.
     /// - A session gets only a number that is reserved.
-    /// - If saving [fails](SaveProgress::is_failing) for long, sessions whose output is held are closed
-    ///   with 1013, and that output is discarded.
+    /// - Sessions whose output is held for half a minute are closed with 1013, and that output is
+    ///   discarded.
     /// - If nothing more [is saved](SaveProgress::is_over), the held output of a session that ends is
     ///   discarded.
     ///
@@ -132,15 +132,18 @@ impl<R, P> LoopServer<R, P> {
         &self.backend
     }
 
-    /// Returns the state of the server, which has been listening for this number of seconds.
-    pub(crate) fn status(&self, uptime: u64) -> ServerStatus {
+    /// Returns the state of the server at this time of a loop.
+    pub(crate) fn status(&self, time: LoopTime) -> ServerStatus {
         let counts = self.backend.counts();
+        let progress = self.loops.settings.progress();
         ServerStatus {
             clients: self.loops.counts.clients(),
             documents: counts.documents,
             entries: counts.entries,
-            uptime,
+            start: (time.moment_millis / 1_000).saturating_sub(time.second),
+            uptime: time.second,
             tally: self.metrics.load(),
+            saving: progress.map(|progress| progress.record().load()),
         }
     }
 

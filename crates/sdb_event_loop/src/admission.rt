@@ -3,7 +3,7 @@ use crate::event_loop::EventLoop;
 use mio::net::TcpStream as MioStream;
 use sdb_connection::{ConnectionSlot, PassBrand};
 use sdb_link::{
-    ClosingConnection, HandshakeProgress, Page, WaitingClient, log_refusal, write_page,
+    ClosingConnection, HandshakeProgress, PlainRequest, WaitingClient, log_refusal, write_page,
 };
 use sdb_session::Policy;
 use std::net::Net;
@@ -27,17 +27,19 @@ impl<R: Net + Wait + Clock + Eprint + Copy + Drop, P: Policy + Drop, B: PassBran
                     .put(key, ConnectionSlot::Handshake(handshake));
             }
             HandshakeProgress::Complete(client) => self.admit(key, client),
-            HandshakeProgress::NotUpgrade(stream, page) => self.send_page(key, stream, page),
+            HandshakeProgress::NotUpgrade(stream, request) => {
+                self.send_page(key, stream, request);
+            }
             HandshakeProgress::Failed => self.remove(key),
         }
     }
 
     // Answers a request that is no WebSocket handshake.
-    fn send_page(&mut self, key: usize, stream: MioStream, page: Page) {
+    fn send_page(&mut self, key: usize, stream: MioStream, request: PlainRequest) {
         let second = self.clock.second();
-        let status = self.context.status(second);
+        let status = self.context.status(self.clock.time);
         let output = &mut self.buffers.output.bytes;
-        let is_written = write_page(self.alloc, page, &status, output).is_ok();
+        let is_written = write_page(self.alloc, request, &status, output).is_ok();
         let closing = if is_written {
             ClosingConnection::after_output(self.alloc, stream, output, second)
         } else {
@@ -50,6 +52,7 @@ impl<R: Net + Wait + Clock + Eprint + Copy + Drop, P: Policy + Drop, B: PassBran
     // Closes a connection without a session.
     fn refuse(&mut self, key: usize, client: WaitingClient, code: CloseCode) {
         let WaitingClient { stream, peer, .. } = client;
+        self.buffers.output.tally.add_refused_client(code);
         if self.context.loops().settings.is_logging {
             log_refusal(&self.context.rt, self.clock.time.log_time(), code, peer);
         }

@@ -46,7 +46,12 @@ impl<R: Net + Wait + Clock + Eprint + Copy + Drop, P: Policy + Drop, B: PassBran
 
     // Begins a large turn if there is a place for it. Else the client waits.
     fn begin_large_turn(&mut self, key: usize) -> Option<Turn<B>> {
-        match self.context.loops().large_turns.begin() {
+        match self
+            .context
+            .loops()
+            .large_turns
+            .begin(self.clock.time.millis)
+        {
             Some(place) => self.begin_turn(key, Some(place)),
             None => {
                 self.connections.await_place(key, self.clock.second());
@@ -57,7 +62,8 @@ impl<R: Net + Wait + Clock + Eprint + Copy + Drop, P: Policy + Drop, B: PassBran
 
     /// Returns whether a client and a place wait for each other.
     pub(crate) fn can_begin_large_turn(&self) -> bool {
-        self.connections.lists.has_awaiting_place() && self.context.loops().large_turns.has_place()
+        let large_turns = &self.context.loops().large_turns;
+        self.connections.lists.has_awaiting_place() && large_turns.has_place(self.clock.time.millis)
     }
 
     /// Lists the next clients that wait for a place, if one is free.

@@ -115,6 +115,7 @@ impl<R: Net + Wait + Clock + Eprint + Copy + Drop, P: Policy + Drop, B: PassBran
             return;
         };
         let output = &mut self.buffers.output;
+        output.tally.add_end(end);
         let connection = Box::into_inner(connection);
         let ended = connection.end(&self.context, end, self.clock.time, output);
         let EndedConnection {

@@ -1,4 +1,5 @@
 //! The deadlines of a served client, in seconds of its loop.
+use crate::loop_buffers::LoopTime;
 use crate::session_end::SessionEnd;
 
 // Seconds of silence before a ping, and before the connection is closed.
@@ -24,8 +25,8 @@ pub struct Deadlines {
     last_write: u64,
     // The begin of a message that isn't complete.
     message_start: Option<u64>,
-    // The second since which output is held. Meanwhile only the end of the hold is due.
-    hold_start: Option<u64>,
+    // The time since which output is held. Meanwhile only the end of the hold is due.
+    hold_start: Option<LoopTime>,
     // The second since which the client waits for the place of a large turn. Nothing is due then.
     wait_start: Option<u64>,
     is_pinged: bool,
@@ -76,18 +77,19 @@ impl Deadlines {
     }
 
     /// Records that output is held.
-    pub fn begin_hold(&mut self, second: u64) {
+    pub fn begin_hold(&mut self, time: LoopTime) {
         if self.hold_start.is_none() {
-            self.hold_start = Some(second);
+            self.hold_start = Some(time);
         }
     }
 
-    /// Records that no output is held. The time of the hold doesn't count, since the client wasn't
-    /// read from.
-    pub fn end_hold(&mut self, second: u64) {
-        let start = self.hold_start.take();
-        self.exclude(start, second);
-        self.last_write = second;
+    /// Records that no output is held, and returns for how many milliseconds it was. The time of the
+    /// hold doesn't count, since the client wasn't read from.
+    pub fn end_hold(&mut self, time: LoopTime) -> u64 {
+        let start = self.hold_start.take().unwrap_or(time);
+        self.exclude(Some(start.second), time.second);
+        self.last_write = time.second;
+        time.millis.saturating_sub(start.millis)
     }
 
     /// Records that the client waits for a place.
@@ -115,7 +117,7 @@ impl Deadlines {
     /// Returns what is due. A ping is due once for each silence.
     pub fn next_action(&mut self, second: u64, has_pending_output: bool) -> DueAction {
         if let Some(start) = self.hold_start {
-            return match second.saturating_sub(start) >= SAVE_LIMIT_SECONDS {
+            return match second.saturating_sub(start.second) >= SAVE_LIMIT_SECONDS {
                 true => DueAction::End(SessionEnd::Unsaved),
                 false => DueAction::Nothing,
             };

@@ -2,7 +2,7 @@
 use crate::deadlines::SAVE_LIMIT_SECONDS;
 use crate::log::Peer;
 use crate::pending_output::{PendingOutput, is_would_block};
-use crate::plain_request::{Page, forwarded_address, page_of};
+use crate::plain_request::{PlainRequest, forwarded_address, plain_request_of};
 use mio::net::TcpStream as MioStream;
 use std::alloc::{AllocError, Global};
 use std::io;
@@ -57,8 +57,8 @@ pub enum HandshakeProgress {
     Complete(WaitingClient),
     /// More input is needed, or output is pending.
     Pending(Handshake),
-    /// The request is no WebSocket handshake, but asks for this page.
-    NotUpgrade(MioStream, Page),
+    /// The request is no WebSocket handshake, but a plain one.
+    NotUpgrade(MioStream, PlainRequest),
     /// The client is gone, or an allocation failed.
     Failed,
 }
@@ -91,8 +91,8 @@ impl Handshake {
             Ok(true) => HandshakeProgress::Complete(self.into_client()),
             Ok(false) => HandshakeProgress::Pending(self),
             Err(error) if is_not_upgrade(&error) => {
-                let page = page_of(&self.request);
-                HandshakeProgress::NotUpgrade(self.into_stream(), page)
+                let request = plain_request_of(&self.request);
+                HandshakeProgress::NotUpgrade(self.into_stream(), request)
             }
             Err(_) => HandshakeProgress::Failed,
         }

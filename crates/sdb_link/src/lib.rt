@@ -11,6 +11,7 @@ mod link;
 mod log;
 mod loop_buffers;
 mod metrics;
+mod metrics_page;
 mod pending_document;
 mod pending_output;
 mod plain_request;
@@ -24,5 +25,5 @@ pub use log::{LogTime, Peer, SessionReport, log_accept_error, log_begin, log_end
 pub use loop_buffers::{LoopBuffers, LoopOutput, LoopTime, OUTPUT_BOUND};
 pub use metrics::{Metrics, Tally};
 pub use pending_document::PendingDocument;
-pub use plain_request::{Page, ServerStatus, VERSION, write_page};
+pub use plain_request::{Page, PlainRequest, ServerStatus, VERSION, write_page};
 pub use session_end::{SessionEnd, configuration, end_of};

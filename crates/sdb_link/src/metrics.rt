@@ -1,7 +1,9 @@
 //! Numbers of what a server has done.
+use crate::session_end::{ENDS, SessionEnd};
 use sdb_oplog::Code;
 use std::array;
 use std::sync::atomic::{AtomicU64, Ordering};
+use websocket::protocol::CloseCode;
 
 /// The codes of refusals, in the order of their counts.
 pub const CODES: [Code; 11] = [
@@ -18,6 +20,9 @@ pub const CODES: [Code; 11] = [
     Code::E11,
 ];
 
+/// The reasons for which a client is closed without a session, in the order of their counts.
+pub const REFUSAL_REASONS: [&str; 3] = ["stopped", "no_room", "out_of_memory"];
+
 /// What one or more turns have done.
 #[derive(Clone, Copy, Drop)]
 pub struct Tally {
@@ -31,6 +36,10 @@ pub struct Tally {
     pub received: u64,
     /// Number of bytes sent after handshakes.
     pub sent: u64,
+    /// Number of ended sessions by reason, in the order of [`ENDS`].
+    pub ends: [u64; ENDS.len()],
+    /// Number of clients that were closed without a session, in the order of [`REFUSAL_REASONS`].
+    pub refused_clients: [u64; REFUSAL_REASONS.len()],
 }
 
 impl Tally {
@@ -42,6 +51,8 @@ impl Tally {
             refusals: [0; CODES.len()],
             received: 0,
             sent: 0,
+            ends: [0; ENDS.len()],
+            refused_clients: [0; REFUSAL_REASONS.len()],
         }
     }
 
@@ -58,9 +69,23 @@ impl Tally {
     /// Counts a refusal.
     pub fn add_refusal(&mut self, code: Code) {
         let position = CODES.iter().position(|known| *known == code);
-        if let Some(count) = self.refusals.get_mut(position.unwrap_or(CODES.len())) {
-            *count = count.saturating_add(1);
-        }
+        add_one(&mut self.refusals, position);
+    }
+
+    /// Counts the end of a session.
+    pub fn add_end(&mut self, end: SessionEnd) {
+        let position = ENDS.iter().position(|known| *known == end);
+        add_one(&mut self.ends, position);
+    }
+
+    /// Counts a client that is closed with this code, without a session.
+    pub fn add_refused_client(&mut self, code: CloseCode) {
+        let position = match code {
+            CloseCode::Away => 0,
+            CloseCode::Again => 1,
+            _ => 2,
+        };
+        add_one(&mut self.refused_clients, Some(position));
     }
 
     /// Counts bytes that were received.
@@ -74,6 +99,15 @@ impl Tally {
     }
 }
 
+// Counts one more at the position, if there is one.
+fn add_one(counts: &mut [u64], position: Option<usize>) {
+    if let Some(position) = position
+        && let Some(count) = counts.get_mut(position)
+    {
+        *count = count.saturating_add(1);
+    }
+}
+
 /// What all turns of a server have done.
 #[derive(Drop)]
 pub struct Metrics {
@@ -82,11 +116,27 @@ pub struct Metrics {
     refusals: [AtomicU64; CODES.len()],
     received: AtomicU64,
     sent: AtomicU64,
+    ends: [AtomicU64; ENDS.len()],
+    refused_clients: [AtomicU64; REFUSAL_REASONS.len()],
 }
 
 fn add_to(counter: &AtomicU64, count: u64) {
     if count > 0 {
         counter.fetch_add(count, Ordering::Relaxed);
+    }
+}
+
+// Adds to each counter the count at its position.
+fn add_each(counters: &[AtomicU64], counts: &[u64]) {
+    for (counter, count) in counters.iter().zip(counts.iter()) {
+        add_to(counter, *count);
+    }
+}
+
+// Sets each count to the counter at its position.
+fn load_each(counts: &mut [u64], counters: &[AtomicU64]) {
+    for (count, counter) in counts.iter_mut().zip(counters.iter()) {
+        *count = counter.load(Ordering::Relaxed);
     }
 }
 
@@ -99,6 +149,8 @@ impl Metrics {
             refusals: array::from_fn(|_| AtomicU64::new(0)),
             received: AtomicU64::new(0),
             sent: AtomicU64::new(0),
+            ends: array::from_fn(|_| AtomicU64::new(0)),
+            refused_clients: array::from_fn(|_| AtomicU64::new(0)),
         }
     }
 
@@ -108,9 +160,9 @@ impl Metrics {
         add_to(&self.acknowledgements, tally.acknowledgements);
         add_to(&self.received, tally.received);
         add_to(&self.sent, tally.sent);
-        for (counter, count) in self.refusals.iter().zip(tally.refusals.iter()) {
-            add_to(counter, *count);
-        }
+        add_each(&self.refusals, &tally.refusals);
+        add_each(&self.ends, &tally.ends);
+        add_each(&self.refused_clients, &tally.refused_clients);
         *tally = Tally::new();
     }
 
@@ -121,9 +173,9 @@ impl Metrics {
         tally.acknowledgements = self.acknowledgements.load(Ordering::Relaxed);
         tally.received = self.received.load(Ordering::Relaxed);
         tally.sent = self.sent.load(Ordering::Relaxed);
-        for (count, counter) in tally.refusals.iter_mut().zip(self.refusals.iter()) {
-            *count = counter.load(Ordering::Relaxed);
-        }
+        load_each(&mut tally.refusals, &self.refusals);
+        load_each(&mut tally.ends, &self.ends);
+        load_each(&mut tally.refused_clients, &self.refused_clients);
         tally
     }
 }

@@ -1,7 +1,8 @@
 //! Plain HTTP requests: those that are no WebSocket handshake.
-use crate::metrics::{CODES, Tally};
+use crate::metrics::Tally;
+use crate::metrics_page::metrics_text;
 use httparse::{EMPTY_HEADER, Request, Status};
-use sdb_wire::code_name;
+use sdb_progress::{SaveOutage, SaveStatus};
 use std::alloc::{AllocError, Global};
 use std::net::IpAddr;
 
@@ -11,25 +12,34 @@ pub const VERSION: &str = "1.0.0";
 // Maximum number of header fields of a request that is read here.
 const FIELD_LIMIT: usize = 128;
 
-/// The answer to a request for another page.
-pub const UPGRADE_REQUIRED: &str = "HTTP/1.1 426 Upgrade Required\r\n\
+// The head and the body of the answer to a request for another page.
+const UPGRADE_REQUIRED: &str = "HTTP/1.1 426 Upgrade Required\r\n\
     Upgrade: websocket\r\n\
     Connection: Upgrade, close\r\n\
     Sec-WebSocket-Version: 13\r\n\
     Content-Type: text/plain\r\n\
     Content-Length: 62\r\n\
-    \r\n\
-    This is a ShareDB server. Its clients connect by a WebSocket.\n";
+    \r\n";
+
+const UPGRADE_TEXT: &str = "This is a ShareDB server. Its clients connect by a WebSocket.\n";
 
 /// The page that a plain request asks for.
 #[derive(Clone, Copy, PartialEq, Eq, Drop)]
 pub enum Page {
-    /// `GET /health`: the state of the server as JSON.
+    /// `/health`: the state of the server as JSON.
     Health,
-    /// `GET /metrics`: the numbers of the server in Prometheus' text format, version 0.0.4.
+    /// `/metrics`: the numbers of the server in Prometheus' text format, version 0.0.4.
     Metrics,
     /// Any other request.
     Other,
+}
+
+/// A plain request.
+#[derive(Clone, Copy, PartialEq, Eq, Drop)]
+pub struct PlainRequest {
+    pub page: Page,
+    /// Whether the answer has no body, as that to a `HEAD`.
+    pub is_head: bool,
 }
 
 /// The state of the server at a request.
@@ -41,22 +51,53 @@ pub struct ServerStatus {
     pub documents: u64,
     /// Number of stored entries.
     pub entries: u64,
-    /// Whole seconds since the server began to listen.
+    /// The second since the start of 1970 in which the server began to listen.
+    pub start: u64,
+    /// Whole seconds since then.
     pub uptime: u64,
     /// What the server has done.
     pub tally: Tally,
+    /// What rounds have done, if operations are saved.
+    pub saving: Option<SaveStatus>,
 }
 
-/// Returns the page that a request asks for.
-pub fn page_of(request: &[u8]) -> Page {
+impl ServerStatus {
+    // Returns the outage of saving, if rounds fail.
+    fn outage(&self) -> Option<SaveOutage> {
+        self.saving?.outage
+    }
+
+    /// Returns the number of stored entries that are saved, or of all if none is.
+    pub fn saved_entries(&self) -> u64 {
+        match self.saving {
+            Some(saving) => saving.entries.min(self.entries),
+            None => self.entries,
+        }
+    }
+}
+
+/// Returns the page that a `GET` or a `HEAD` asks for. The query of its path is ignored.
+pub fn plain_request_of(request: &[u8]) -> PlainRequest {
     let mut fields = [EMPTY_HEADER; FIELD_LIMIT];
     let mut head = Request::new(&mut fields);
-    let Ok(Status::Complete(_)) = head.parse(request) else {
-        return Page::Other;
+    let is_complete = matches!(head.parse(request), Ok(Status::Complete(_)));
+    let is_head = is_complete && head.method == Some("HEAD");
+    let page = match (head.method, head.path) {
+        (Some("GET" | "HEAD"), Some(path)) if is_complete => page_at(path),
+        _ => Page::Other,
     };
-    match (head.method, head.path) {
-        (Some("GET"), Some("/health")) => Page::Health,
-        (Some("GET"), Some("/metrics")) => Page::Metrics,
+    PlainRequest { page, is_head }
+}
+
+// Returns the page at a path, which may have a query.
+fn page_at(path: &str) -> Page {
+    let path = match path.split_once('?') {
+        Some((path, _)) => path,
+        None => path,
+    };
+    match path {
+        "/health" => Page::Health,
+        "/metrics" => Page::Metrics,
         _ => Page::Other,
     }
 }
@@ -85,79 +126,66 @@ fn last_address(list: &[u8]) -> Option<IpAddr> {
 /// Appends the answer to a plain request.
 pub fn write_page(
     alloc: Global,
-    page: Page,
+    request: PlainRequest,
     status: &ServerStatus,
     output: &mut Vec<u8>,
 ) -> Result<(), AllocError> {
-    let (media_type, body) = match page {
+    let (media_type, body) = match request.page {
         Page::Health => ("application/json", health_text(alloc, status)?),
         Page::Metrics => ("text/plain; version=0.0.4", metrics_text(alloc, status)?),
-        Page::Other => return output.extend_from_slice(UPGRADE_REQUIRED.as_bytes()),
+        Page::Other => {
+            output.extend_from_slice(UPGRADE_REQUIRED.as_bytes())?;
+            return write_body(request, UPGRADE_TEXT, output);
+        }
+    };
+    let code = match request.page {
+        Page::Health if status.outage().is_some() => "503 Service Unavailable",
+        _ => "200 OK",
     };
     let head = format!(in alloc;
-        "HTTP/1.1 200 OK\r\nContent-Type: {media_type}\r\nContent-Length: {}\r\nConnection: close\r\n\r\n",
+        "HTTP/1.1 {code}\r\nContent-Type: {media_type}\r\nContent-Length: {}\r\nConnection: close\r\n\r\n",
         body.len()
     )?;
     output.extend_from_slice(head.as_bytes())?;
+    write_body(request, body.as_str(), output)
+}
+
+// Appends the body, unless the request is a `HEAD`.
+fn write_body(request: PlainRequest, body: &str, output: &mut Vec<u8>) -> Result<(), AllocError> {
+    if request.is_head {
+        return Ok(());
+    }
     output.extend_from_slice(body.as_bytes())
 }
 
 fn health_text(alloc: Global, status: &ServerStatus) -> Result<String, AllocError> {
+    let mut text = String::new(alloc);
+    let entries = status.saved_entries();
     let ServerStatus {
         clients,
         documents,
-        entries,
         uptime,
         ..
     } = status;
-    format!(in alloc;
-        "{{\"version\":\"{VERSION}\",\"clients\":{clients},\"documents\":{documents},\"entries\":{entries},\"uptime\":{uptime}}}\n"
-    )
-}
-
-fn metrics_text(alloc: Global, status: &ServerStatus) -> Result<String, AllocError> {
-    let mut text = String::new(alloc);
-    write_metrics(&mut text, status)?;
+    write!(
+        &mut text,
+        "{{\"version\":\"{VERSION}\",\"clients\":{clients},\"documents\":{documents},\"entries\":{entries},\"uptime\":{uptime}"
+    )?;
+    write_saving(&mut text, status)?;
+    writeln!(&mut text, "}}")?;
     Ok(text)
 }
 
-fn write_metrics(text: &mut String, status: &ServerStatus) -> Result<(), AllocError> {
-    writeln!(text, "# TYPE navirotsohy_info gauge")?;
-    writeln!(text, "navirotsohy_info{{version=\"{VERSION}\"}} 1")?;
-    write_metric(text, "uptime_seconds", "gauge", status.uptime)?;
-    write_metric(text, "clients", "gauge", status.clients as u64)?;
-    write_metric(text, "documents", "gauge", status.documents)?;
-    write_metric(text, "entries", "gauge", status.entries)?;
-    write_metric(text, "messages_total", "counter", status.tally.messages)?;
-    let acknowledgements = status.tally.acknowledgements;
-    write_metric(text, "acknowledgements_total", "counter", acknowledgements)?;
-    write_metric(
-        text,
-        "received_bytes_total",
-        "counter",
-        status.tally.received,
-    )?;
-    write_metric(text, "sent_bytes_total", "counter", status.tally.sent)?;
-    write_refusals(text, &status.tally)
-}
-
-fn write_metric(text: &mut String, name: &str, kind: &str, value: u64) -> Result<(), AllocError> {
-    write_type(text, name, kind)?;
-    writeln!(text, "navirotsohy_{name} {value}")
-}
-
-fn write_type(text: &mut String, name: &str, kind: &str) -> Result<(), AllocError> {
-    writeln!(text, "# TYPE navirotsohy_{name} {kind}")
-}
-
-fn write_refusals(text: &mut String, tally: &Tally) -> Result<(), AllocError> {
-    writeln!(text, "# TYPE navirotsohy_refusals_total counter")?;
-    for (code, count) in CODES.iter().zip(tally.refusals.iter()) {
-        let name = code_name(*code);
-        writeln!(
-            text,
-            "navirotsohy_refusals_total{{code=\"{name}\"}} {count}"
-        )?;
+// Writes whether operations are saved, and if not, why and since when.
+fn write_saving(text: &mut String, status: &ServerStatus) -> Result<(), AllocError> {
+    match status.outage() {
+        Some(SaveOutage { failure, since }) => {
+            write!(
+                text,
+                ",\"saving\":false,\"reason\":\"{failure}\",\"since\":{since}"
+            )
+        }
+        None if status.saving.is_some() => write!(text, ",\"saving\":true"),
+        None => Ok(()),
     }
-    Ok(())
 }

@@ -6,7 +6,7 @@ use websocket::error::Error;
 use websocket::protocol::{CloseCode, WebSocketConfig};
 
 /// The reason why a session ended. `Display` writes it in words.
-#[derive(Clone, Copy, Drop)]
+#[derive(Clone, Copy, PartialEq, Eq, Drop)]
 pub enum SessionEnd {
     /// The client closed the connection.
     Closed,
@@ -30,7 +30,37 @@ pub enum SessionEnd {
     Stopped,
 }
 
+/// The reasons, in the order of their counts.
+pub const ENDS: [SessionEnd; 10] = [
+    SessionEnd::Closed,
+    SessionEnd::Lost,
+    SessionEnd::TooLong,
+    SessionEnd::Silent,
+    SessionEnd::Slow,
+    SessionEnd::Protocol,
+    SessionEnd::NotText,
+    SessionEnd::OutOfMemory,
+    SessionEnd::Unsaved,
+    SessionEnd::Stopped,
+];
+
 impl SessionEnd {
+    /// Returns the name of the reason in metrics.
+    pub fn label(self) -> &'static str {
+        match self {
+            SessionEnd::Closed => "closed",
+            SessionEnd::Lost => "lost",
+            SessionEnd::TooLong => "too_long",
+            SessionEnd::Silent => "silent",
+            SessionEnd::Slow => "slow",
+            SessionEnd::Protocol => "protocol",
+            SessionEnd::NotText => "not_text",
+            SessionEnd::OutOfMemory => "out_of_memory",
+            SessionEnd::Unsaved => "unsaved",
+            SessionEnd::Stopped => "stopped",
+        }
+    }
+
     /// Returns the close code to send, or `None` if no close is sent.
     pub fn close_code(self) -> Option<CloseCode> {
         match self {

@@ -1,55 +1,71 @@
 //! Turns of clients with much unanswered input.
+use std::array;
 use std::sync::atomic::{AtomicU64, Ordering};
 
 /// Number of bytes of unanswered input from which a client's turn is a large one.
 pub const LARGE_INPUT: usize = 64 * 1_024;
 
-/// Maximum number of large turns at once. A message takes up to 170 times its length while it is
-/// parsed.
-pub const LARGE_TURN_LIMIT: u64 = 2;
+/// Number of places of large turns. A message takes up to 170 times its length while it is parsed.
+pub const LARGE_TURN_LIMIT: usize = 2;
 
-// A bit for each of these turns.
-const ALL_PLACES: u64 = (1 << LARGE_TURN_LIMIT) - 1;
+// Milliseconds after which the place of a turn is given to another one. So clients whose turns take
+// long don't stop all others.
+const PLACE_LIMIT_MS: u64 = 1_000;
 
 /// A place of a large turn.
 #[derive(Clone, Copy, Drop)]
 pub struct LargeTurn {
-    bit: u64,
+    place: usize,
+    begin: u64,
 }
 
-/// The large turns of a server. Each has a place, and there are few places.
+/// The large turns of a server. Each has a place for a second, and there are few places.
 #[derive(Drop)]
 pub struct LargeTurns {
-    // The bits of the places that are taken.
-    taken: AtomicU64,
+    // For each place 0, or one more than the millisecond in which it was taken.
+    begins: [AtomicU64; LARGE_TURN_LIMIT],
+}
+
+// Returns whether a place is free, or was taken long ago.
+fn is_free(begin: u64, millis: u64) -> bool {
+    begin == 0 || millis.saturating_sub(begin) >= PLACE_LIMIT_MS
 }
 
 impl LargeTurns {
     /// Creates it without turns.
     pub fn new() -> LargeTurns {
         LargeTurns {
-            taken: AtomicU64::new(0),
+            begins: array::from_fn(|_| AtomicU64::new(0)),
         }
     }
 
-    /// Returns whether a place is free.
-    pub fn has_place(&self) -> bool {
-        self.taken.load(Ordering::SeqCst) != ALL_PLACES
+    /// Returns whether a place is free in this millisecond.
+    pub fn has_place(&self, millis: u64) -> bool {
+        self.begins
+            .iter()
+            .any(|begin| is_free(begin.load(Ordering::SeqCst), millis))
     }
 
-    /// Takes a place, if one is free.
-    pub fn begin(&self) -> Option<LargeTurn> {
-        for place in 0..LARGE_TURN_LIMIT {
-            let bit = 1 << place;
-            if self.taken.fetch_or(bit, Ordering::SeqCst) & bit == 0 {
-                return Some(LargeTurn { bit });
+    /// Takes a place, if one is free in this millisecond.
+    pub fn begin(&self, millis: u64) -> Option<LargeTurn> {
+        let begin = millis.saturating_add(1);
+        for (place, taken) in self.begins.iter().enumerate() {
+            let before = taken.load(Ordering::SeqCst);
+            if is_free(before, millis)
+                && taken
+                    .compare_exchange(before, begin, Ordering::SeqCst, Ordering::SeqCst)
+                    .is_ok()
+            {
+                return Some(LargeTurn { place, begin });
             }
         }
         None
     }
 
-    /// Frees the place of a turn.
+    /// Frees the place of a turn, unless it was given to another one.
     pub fn end(&self, turn: LargeTurn) {
-        self.taken.fetch_and(!turn.bit, Ordering::SeqCst);
+        if let Some(taken) = self.begins.get(turn.place) {
+            let _ = taken.compare_exchange(turn.begin, 0, Ordering::SeqCst, Ordering::SeqCst);
+        }
     }
 }

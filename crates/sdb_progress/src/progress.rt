@@ -1,4 +1,5 @@
 //! The progress of saving, which the threads of a server share.
+use crate::save_record::SaveRecord;
 use std::sync::Wait;
 use std::sync::atomic::{AtomicBool, AtomicU64, Ordering};
 use std::thread::Parker;
@@ -28,6 +29,7 @@ pub struct SaveProgress {
     // The thread that saves parks here, and the one that waits for its end.
     saver: Parker,
     ender: Parker,
+    record: SaveRecord,
 }
 
 impl SaveProgress {
@@ -43,7 +45,13 @@ impl SaveProgress {
             is_over: AtomicBool::new(false),
             saver: Parker::new(),
             ender: Parker::new(),
+            record: SaveRecord::new(),
         }
+    }
+
+    /// Returns the record of what rounds have done.
+    pub fn record(&self) -> &SaveRecord {
+        &self.record
     }
 
     /// Requests the next round, and returns its ticket. A round that has begun may have missed what
@@ -126,7 +134,7 @@ impl SaveProgress {
         self.is_over()
     }
 
-    /// Waits for a request, at most a second.
+    /// Waits for a request, at most this long.
     pub fn wait<R: Wait>(&self, rt: &R, pause: Duration) {
         if self.requested.load(Ordering::SeqCst) <= self.committed.load(Ordering::SeqCst) {
             self.saver.park_timeout(rt, pause);

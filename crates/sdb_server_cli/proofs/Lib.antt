@@ -1,1 +1,2 @@
+mod RestoredLines
 mod SendSync

@@ -78,11 +78,8 @@ where
     R: Net<Listener = TcpListener, Stream = TcpStream> + Threads + Wait + Clock,
     R: Copy + Drop + Send + Sync + 'static,
 {
-    if let StopCondition::Eof { .. } = until
-        && let Err(error) = rt.reader().read(&mut [])
-    {
-        let text = format!(in rt.alloc(); "error: cannot read standard input: {error}")?;
-        return Ok(print_refusal(&rt, text.as_str())?);
+    if let Some(status) = refuse_closed_input(&rt, until)? {
+        return Ok(status);
     }
     match TcpListener::bind(&rt, address) {
         Ok(listener) => serve_at(rt, listener, until, options, table),
@@ -91,6 +88,21 @@ where
             Ok(STATUS_FAULT)
         }
     }
+}
+
+/// Prints a refusal if the server is to be stopped at the end of standard input, and that can't be
+/// read. Returns the exit status then.
+pub(crate) fn refuse_closed_input<R>(rt: &R, until: StopCondition) -> anyhow::Result<Option<u8>>
+where
+    R: AllocGlobal + Input<Reader = StdinLock<'static>> + Eprint,
+{
+    if let StopCondition::Eof { .. } = until
+        && let Err(error) = rt.reader().read(&mut [])
+    {
+        let text = format!(in rt.alloc(); "error: cannot read standard input: {error}")?;
+        return Ok(Some(print_refusal(rt, text.as_str())?));
+    }
+    Ok(None)
 }
 
 /// Serves the clients of the listener until the stop condition holds, and returns the exit status.

@@ -2,7 +2,7 @@
 ghost use Rattle.std.specs.Prelude.{OnOk};
 ghost use Rattle.sdb_store.specs.RestorerModel.{IsRestorer};
 
-use crate::store_file::print_store_fault;
+use crate::store_file::{BLOCK_START, print_store_fault};
 use crate::store_task::{ACCEPTED, print_counts};
 use sdb_backend::Counts;
 use sdb_dump::DumpFault;
@@ -94,11 +94,14 @@ impl<I: BufRead> DumpLines<I> {
         Ok(count.as_bytes() == self.line.as_slice())
     }
 
-    // Restores the entry of the line.
+    // Restores the entry of the line. A dump has no line of a block of numbers.
     fn restore_to(&self, restorer: &mut Restorer) -> Result<(), DumpFault>
         requires { IsRestorer restorer.old }
         ensures { IsRestorer restorer.new }
     {
+        if self.line.as_slice().starts_with(BLOCK_START) {
+            return Err(self.wrong_line());
+        }
         match restorer.restore_line(self.line.as_slice()) {
             Ok(()) => Ok(()),
             Err(fault) => Err(self.fault(fault)),

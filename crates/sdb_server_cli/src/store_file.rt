@@ -1,13 +1,24 @@
 //! Reading a store file, and writing to it.
-ghost use Rattle.std.specs.Prelude.{IfOk};
+ghost use Rattle.std.specs.Prelude.{ℕ, List, IfOk};
+ghost use Rattle.sqlite.specs.State.{HasCleanDisk};
+ghost use Rattle.sdb_linefile.specs.LineFile.{IsFileOf, IsUnreadFileOf, file_state};
 ghost use Rattle.sdb_backend.specs.PassModel.{IsHostOfBackend};
 ghost use Rattle.sdb_store.specs.RestorerModel.{IsRestorer};
+ghost use Rattle.sdb_server_cli.specs.StoreModel.{HasRestoredLines, IsBackendOfLines};
 
+use crate::store_place::StorePlace;
 use sdb_cli::{STATUS_FAULT, STATUS_OK};
 use sdb_linefile::{LineFile, LineFileError, LineSink, UnreadFile};
+use sdb_progress::{RoundFailure, SaveProgress};
 use sdb_store::{LineWriter, RestoreFault, RestoredBackend, Restorer, WriteFault};
 use sqlite::Alter;
 use std::alloc::Global;
+use std::fs::Files;
+use std::sync::Arc;
+use std::time::{Clock, Instant};
+
+/// The start of the line of a block of numbers.
+pub(crate) const BLOCK_START: &[u8] = b"{\"given\":";
 
 /// Prints why the file at a path isn't used as a store, and returns the exit status.
 pub fn print_file_fault(rt: &impl Eprint, path: &str, error: LineFileError) -> anyhow::Result<u8> {
@@ -41,11 +52,9 @@ struct RestoringSink {
 }
 
 impl LineSink for RestoringSink {
-    ghost use Rattle.std.specs.Prelude.{⊤};
+    ghost use Rattle.sdb_store.specs.RestorerModel.{IsRestorer, RestorerAfterLine};
 
-    ghost accepts = { λ _ _ _. ⊤ };
-
-    ghost use Rattle.sdb_store.specs.RestorerModel.{IsRestorer};
+    ghost accepts = { λ old line new. RestorerAfterLine old.restorer new.restorer line };
 
     ghost holds = { λ s. IsRestorer s.restorer };
 
@@ -61,7 +70,9 @@ pub(crate) fn restore_lines<S: Alter + Drop>(
     alloc: Global,
     file: UnreadFile<S>,
 ) -> Result<(LineFile<S>, Restorer), LineFileError>
-    ensures { IfOk result (λ both. IsRestorer both.1) }
+    ensures restorer { IfOk result (λ both. IsRestorer both.1) }
+    ensures lines { IfOk result (λ both. HasCleanDisk (file_state both.0) → (lines : List (List ℕ)) →
+        IsUnreadFileOf lines file → IsFileOf lines both.0 × HasRestoredLines both.1 lines) }
 {
     let Ok(restorer) = Restorer::new(alloc) else {
         return Err(LineFileError::OutOfMemory);
@@ -88,7 +99,9 @@ pub(crate) fn restore<R, S>(
 where
     R: AllocGlobal + Drop,
     S: Alter + Drop,
-    ensures { IfOk result (λ both. IsHostOfBackend both.1.host both.1.backend) }
+    ensures host { IfOk result (λ both. IsHostOfBackend both.1.host both.1.backend) }
+    ensures lines { IfOk result (λ both. HasCleanDisk (file_state both.0) → (lines : List (List ℕ)) →
+        IsUnreadFileOf lines file → IsFileOf lines both.0 × IsBackendOfLines lines both.1) }
 {
     let (file, restorer) = restore_lines(rt.alloc(), file)?;
     match restorer.finish(rt) {
@@ -97,13 +110,43 @@ where
     }
 }
 
-/// Writes groups of lines to a file.
+/// A store file before its lines were read, and its place.
 #[derive(Drop)]
-pub(crate) struct FileWriter<S: Alter> {
+pub(crate) struct StoreFile<S: Alter> {
+    pub(crate) file: UnreadFile<S>,
+    pub(crate) place: StorePlace,
+}
+
+/// Writes groups of lines to a file, and records their writes.
+#[derive(Drop)]
+pub(crate) struct FileWriter<R, S: Alter> {
+    pub(crate) rt: R,
+    pub(crate) place: StorePlace,
+    pub(crate) progress: Arc<SaveProgress, Global>,
     pub(crate) file: LineFile<S>,
 }
 
-impl<S: Alter> LineWriter for FileWriter<S> {
+impl<R: Clock, S: Alter> FileWriter<R, S> {
+    // Records a committed group of this number of entries.
+    fn record_group(&self, entries: u64, start: Option<Instant>) {
+        let micros = match (start, Instant::now(&self.rt)) {
+            (Some(start), Ok(end)) => end.saturating_duration_since(start).as_micros(),
+            _ => 0,
+        };
+        let micros = u64::try_from(micros).unwrap_or(u64::MAX);
+        self.progress.record().add_group(entries, micros);
+    }
+}
+
+// Returns the number of lines of entries. The others are blocks of numbers.
+fn count_entries(group: &[Vec<u8>]) -> u64 {
+    group
+        .iter()
+        .filter(|line| !line.as_slice().starts_with(BLOCK_START))
+        .count() as u64
+}
+
+impl<R: Clock + Files, S: Alter> LineWriter for FileWriter<R, S> {
     ghost use Rattle.sqlite.specs.State.{HasCleanDisk};
     ghost use Rattle.sdb_linefile.specs.LineFile.{IsFileOf, file_state};
 
@@ -111,9 +154,18 @@ impl<S: Alter> LineWriter for FileWriter<S> {
 
     ghost has_lines = { λ lines w. IsFileOf lines w.file };
 
+    fn is_in_place(&self) -> bool {
+        self.place.is_kept(&self.rt)
+    }
+
     fn write(&mut self, group: Vec<Vec<u8>>) -> Result<(), (WriteFault, Vec<Vec<u8>>)> {
+        let entries = count_entries(group.as_slice());
+        let start = Instant::now(&self.rt).ok();
         match self.file.store_group(group) {
-            Ok(_) => Ok(()),
+            Ok(_) => {
+                self.record_group(entries, start);
+                Ok(())
+            }
             Err((error, group)) => Err((write_fault(error), group)),
         }
     }
@@ -122,9 +174,9 @@ impl<S: Alter> LineWriter for FileWriter<S> {
 // Returns whether a group can be written again after an error.
 fn write_fault(error: LineFileError) -> WriteFault {
     match error {
-        LineFileError::DiskFull | LineFileError::DiskFailed | LineFileError::OutOfMemory => {
-            WriteFault::Retry
-        }
+        LineFileError::DiskFull => WriteFault::Retry(RoundFailure::DiskFull),
+        LineFileError::DiskFailed => WriteFault::Retry(RoundFailure::DiskFailed),
+        LineFileError::OutOfMemory => WriteFault::Retry(RoundFailure::OutOfMemory),
         _ => WriteFault::Closed,
     }
 }

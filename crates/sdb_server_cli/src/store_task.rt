@@ -1,13 +1,15 @@
 //! What is done with a store file.
 
+use crate::clients::refuse_closed_input;
 use crate::close::print_audit;
 use crate::load::{LoadedDump, read_dump, store_dump};
 use crate::options::RunMode;
-use crate::store_file::{print_file_fault, restore, restore_lines};
+use crate::store_file::{StoreFile, print_file_fault, restore, restore_lines};
+use crate::store_place::StorePlace;
 use crate::stored::serve_file;
 use crate::stored_lines::answer_stored;
 use sdb_backend::Counts;
-use sdb_cli::STATUS_OK;
+use sdb_cli::{STATUS_FAULT, STATUS_OK};
 use sdb_linefile::{LineFile, UnreadFile};
 use sdb_projection::Table;
 use sqlite::Alter;
@@ -32,7 +34,8 @@ pub enum StoreJob {
 }
 
 /// Returns what is done with the store at a path in this mode. The file of a load must not exist, and
-/// the dump is read. Otherwise prints why not, and returns `None`.
+/// the dump is read; an input whose end stops a server must be open. Otherwise prints why not, and
+/// returns the exit status. The file isn't touched.
 ///
 /// # Errors
 ///
@@ -42,52 +45,61 @@ pub fn prepare_job<R>(
     path: &str,
     mode: RunMode,
     table: Table,
-) -> anyhow::Result<Option<StoreJob>>
+) -> anyhow::Result<Result<StoreJob, u8>>
 where
     R: AllocGlobal + Input<Reader = StdinLock<'static>> + Eprint + Files + Copy + Drop,
 {
     match mode {
         RunMode::Load => prepare_load(rt, path),
-        _ => Ok(Some(StoreJob::Serve(mode, table))),
+        RunMode::Listen { until, .. } => match refuse_closed_input(&rt, until)? {
+            Some(status) => Ok(Err(status)),
+            None => Ok(Ok(StoreJob::Serve(mode, table))),
+        },
+        _ => Ok(Ok(StoreJob::Serve(mode, table))),
     }
 }
 
 // Reads the dump, unless its file exists.
-fn prepare_load<R>(rt: R, path: &str) -> anyhow::Result<Option<StoreJob>>
+fn prepare_load<R>(rt: R, path: &str) -> anyhow::Result<Result<StoreJob, u8>>
 where
     R: AllocGlobal + Input<Reader = StdinLock<'static>> + Eprint + Files + Copy + Drop,
 {
     if fs::exists(&rt, path)? {
         eprintln!(&rt; "store: --load needs a new file")?;
-        return Ok(None);
+        return Ok(Err(STATUS_FAULT));
     }
     match read_dump(rt, rt.reader()) {
-        Ok(dump) => Ok(Some(StoreJob::Load(dump))),
+        Ok(dump) => Ok(Ok(StoreJob::Load(dump))),
         Err(fault) => {
             eprintln!(&rt; "load: {fault}")?;
-            Ok(None)
+            Ok(Err(STATUS_FAULT))
         }
     }
 }
 
-/// Runs a job on its file. Returns the exit status, and the file if lines were stored in it.
+/// Runs a job on the file at a path. Returns the exit status, and the file if lines were stored in
+/// it.
 ///
 /// # Errors
 ///
 /// As [`serve_at`](crate::serve_at).
 pub fn run_stored<R, S>(
     rt: R,
+    path: &str,
     file: UnreadFile<S>,
     job: StoreJob,
 ) -> anyhow::Result<(u8, Option<LineFile<S>>)>
 where
-    R: AllocGlobal + Input<Reader = StdinLock<'static>> + Print + Eprint,
+    R: AllocGlobal + Input<Reader = StdinLock<'static>> + Print + Eprint + Files,
     R: Net<Listener = TcpListener, Stream = TcpStream> + Threads + Wait + Clock,
     R: Copy + Drop + Send + Sync + 'static,
     S: Alter + Drop + Send + 'static,
 {
     match job {
-        StoreJob::Serve(mode, table) => serve_stored(rt, file, mode, table),
+        StoreJob::Serve(mode, table) => {
+            let place = StorePlace::new(rt.alloc(), &rt, path)?;
+            serve_stored(rt, StoreFile { file, place }, mode, table)
+        }
         StoreJob::Load(dump) => store_dump(&rt, file, dump),
     }
 }
@@ -95,12 +107,12 @@ where
 // Serves clients or a session of lines.
 fn serve_stored<R, S>(
     rt: R,
-    file: UnreadFile<S>,
+    store: StoreFile<S>,
     mode: RunMode,
     table: Table,
 ) -> anyhow::Result<(u8, Option<LineFile<S>>)>
 where
-    R: AllocGlobal + Input<Reader = StdinLock<'static>> + Print + Eprint,
+    R: AllocGlobal + Input<Reader = StdinLock<'static>> + Print + Eprint + Files,
     R: Net<Listener = TcpListener, Stream = TcpStream> + Threads + Wait + Clock,
     R: Copy + Drop + Send + Sync + 'static,
     S: Alter + Drop + Send + 'static,
@@ -110,8 +122,8 @@ where
             address,
             until,
             options,
-        } => serve_file(rt, file, address, until, options, table),
-        _ => answer_stored(rt, file, &table),
+        } => serve_file(rt, store, address, until, options, table),
+        _ => answer_stored(rt, store, &table),
     }
 }
 

@@ -5,16 +5,18 @@ ghost use Rattle.sdb_event_loop.specs.LoopModel.{IsHostOfLoops, loops_backend};
 ghost use Rattle.sdb_store.specs.SaverModel.{saver_pass};
 
 use crate::clients::{ServeOptions, StopCondition, loop_server, print_address, read_to_end};
-use crate::store_file::{FileWriter, print_store_fault, restore};
+use crate::store_file::{FileWriter, StoreFile, print_store_fault, restore};
 use sdb_backend::{Counts, Host};
 use sdb_cli::{STATUS_FAULT, STATUS_OK};
 use sdb_event_loop::{LoopServer, listen_on_loops};
-use sdb_linefile::{LineFile, UnreadFile};
-use sdb_progress::SaveProgress;
+use sdb_linefile::LineFile;
+use sdb_progress::{SaveProgress, SaveRecord};
 use sdb_projection::Table;
+use sdb_server::{Clock as MomentClock, SystemClock};
 use sdb_store::{LineWriter, RestoredBackend, RoundListener, SaveFault, Saver, save_until_closed};
 use sqlite::Alter;
 use std::alloc::{AllocError, Global};
+use std::fs::Files;
 use std::io::{Read, StdinLock};
 use std::net::{Net, SocketAddr, TcpListener, TcpStream};
 use std::sync::{Arc, Wait};
@@ -29,27 +31,42 @@ const END_SECONDS: u64 = 5;
 /// before a client is sent it. Returns the exit status, and the file if it was served.
 pub(crate) fn serve_file<R, S>(
     rt: R,
-    file: UnreadFile<S>,
+    store: StoreFile<S>,
     address: SocketAddr,
     until: StopCondition,
     options: ServeOptions,
     table: Table,
 ) -> anyhow::Result<(u8, Option<LineFile<S>>)>
 where
-    R: AllocGlobal + Input<Reader = StdinLock<'static>> + Print + Eprint,
+    R: AllocGlobal + Input<Reader = StdinLock<'static>> + Print + Eprint + Files,
     R: Net<Listener = TcpListener, Stream = TcpStream> + Threads + Wait + Clock,
     R: Copy + Drop + Send + Sync + 'static,
     S: Alter + Drop + Send + 'static,
 {
+    let StoreFile { file, place } = store;
     let (file, restored) = match restore(rt, file) {
         Ok(both) => both,
         Err(error) => return Ok((print_store_fault(&rt, error)?, None)),
     };
     match TcpListener::bind(&rt, address) {
         Ok(listener) => {
-            let writer = FileWriter { file };
-            let served = serve_saved(rt, listener, until, options, table, restored, writer);
-            let (status, FileWriter { file }) = served?;
+            let highest = restored.highest_number;
+            let progress = Arc::new(rt.alloc(), SaveProgress::new(highest))?;
+            let shared = Arc::try_clone(&progress)?;
+            let writer = FileWriter {
+                rt,
+                place,
+                progress: shared,
+                file,
+            };
+            let served = Served {
+                listener,
+                until,
+                options,
+                table,
+            };
+            let (status, writer) = serve_saved(rt, served, restored, &progress, writer)?;
+            let FileWriter { file, .. } = writer;
             Ok((status, Some(file)))
         }
         Err(error) => {
@@ -59,15 +76,53 @@ where
     }
 }
 
+// What is served, at which listener and until when.
+#[derive(Drop)]
+struct Served {
+    listener: TcpListener,
+    until: StopCondition,
+    options: ServeOptions,
+    table: Table,
+}
+
 // The loops of a server, which are woken after each round.
 #[derive(Drop)]
 struct LoopListener<'a, R> {
     rt: R,
     state: &'a LoopServer<R, Table>,
+    record: &'a SaveRecord,
 }
 
-impl<R: Wait> RoundListener for LoopListener<'_, R> {
-    fn notify(&self) {
+impl<R: Eprint + Clock> LoopListener<'_, R> {
+    // Records a round, and prints a line if rounds begin to fail or are committed again.
+    fn record(&self, saved: Result<(), SaveFault>) {
+        let second = SystemClock::new(&self.rt).now().milliseconds() / 1_000;
+        match saved {
+            Ok(()) => self.print_recovery(second),
+            Err(fault) => {
+                if let Some(failure) = fault.failure()
+                    && self.record.add_failure(failure, second)
+                {
+                    let _ = eprintln!(&self.rt; "store: operations aren't saved: {failure}");
+                }
+            }
+        }
+    }
+
+    // Prints a line if rounds failed before.
+    fn print_recovery(&self, second: u64) {
+        if let Some(outage) = self.record.end_outage() {
+            let seconds = second.saturating_sub(outage.since);
+            let _ = eprintln!(&self.rt;
+                "store: operations are saved again, after {seconds} seconds"
+            );
+        }
+    }
+}
+
+impl<R: Wait + Eprint + Clock> RoundListener for LoopListener<'_, R> {
+    fn notify(&self, saved: Result<(), SaveFault>) {
+        self.record(saved);
         self.state.notify_committed(&self.rt);
     }
 }
@@ -83,7 +138,7 @@ struct SavingThread<R, W> {
     ghost pass_belongs: { IsPassOfBackend (saver_pass saver) (loops_backend state.value) },
 }
 
-impl<R: Wait + Clock + Copy + Drop, W: LineWriter + Drop> SavingThread<R, W> {
+impl<R: Wait + Clock + Eprint + Copy + Drop, W: LineWriter + Drop> SavingThread<R, W> {
     // Saves operations until the server has ended. If nothing can be saved, it stops the server.
     // Returns the writer too.
     fn run(self) -> (Result<(), SaveFault>, W) {
@@ -94,7 +149,11 @@ impl<R: Wait + Clock + Copy + Drop, W: LineWriter + Drop> SavingThread<R, W> {
             mut writer,
             progress,
         } = self;
-        let listener = LoopListener { rt, state: &state };
+        let listener = LoopListener {
+            rt,
+            state: &state,
+            record: progress.record(),
+        };
         let backend = state.backend();
         let saved = save_until_closed(&rt, backend, &mut saver, &mut writer, &progress, &listener);
         if saved.is_err() {
@@ -134,7 +193,7 @@ fn start_saving<R, W>(
     progress: &Arc<SaveProgress, Global>,
 ) -> anyhow::Result<JoinHandle<(Result<(), SaveFault>, W)>>
 where
-    R: Threads + Wait + Clock + Copy + Drop + Send + Sync + 'static,
+    R: Threads + Wait + Clock + Eprint + Copy + Drop + Send + Sync + 'static,
     W: LineWriter + Drop + Send + 'static,
     requires { IsPassOfBackend (saver_pass saver) (loops_backend state.now.value) }
 {
@@ -154,11 +213,9 @@ where
 // writer.
 fn serve_saved<R, W>(
     rt: R,
-    listener: TcpListener,
-    until: StopCondition,
-    options: ServeOptions,
-    table: Table,
+    served: Served,
     restored: RestoredBackend<R>,
+    progress: &Arc<SaveProgress, Global>,
     writer: W,
 ) -> anyhow::Result<(u8, W)>
 where
@@ -174,15 +231,21 @@ where
         mut host,
         highest_number,
     } = restored;
-    let progress = Arc::new(alloc, SaveProgress::new(highest_number))?;
+    let Served {
+        listener,
+        until,
+        options,
+        table,
+    } = served;
+    progress.record().add_restored(backend.counts().entries);
     let server = loop_server(&rt, backend, table, options, session_limit(until), false)?;
-    let shared = Arc::try_clone(&progress)?;
+    let shared = Arc::try_clone(progress)?;
     let state = Arc::new(alloc, server.with_progress(shared))?;
     let saver = create_saver(alloc, &state, &mut host, highest_number)?;
-    let saving = start_saving(rt, &state, saver, writer, &progress)?;
+    let saving = start_saving(rt, &state, saver, writer, progress)?;
     let served = serve_until(rt, listener, until, &state, &mut host);
     progress.close();
-    let noted = note_long_save(&rt, &progress);
+    let noted = note_long_save(&rt, progress);
     let (saved, writer) = saving.join(&rt);
     noted?;
     let status = print_end(&rt, until, saved, served, state.backend().counts())?;

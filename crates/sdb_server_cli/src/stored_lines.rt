@@ -3,21 +3,23 @@ ghost use Rattle.std.specs.Prelude.{IfOk, OnOk};
 ghost use Rattle.sdb_backend.specs.PassModel.{IsHostOfBackend, IsPassOfBackend};
 ghost use Rattle.sdb_store.specs.SaverModel.{saver_pass};
 
-use crate::store_file::{FileWriter, print_store_fault, restore};
+use crate::store_file::{FileWriter, StoreFile, print_store_fault, restore};
 use sdb_backend::{Backend, Host, Pass};
 use sdb_cli::{STATUS_FAULT, STATUS_OK, exit_status};
-use sdb_linefile::{LineFile, UnreadFile};
+use sdb_linefile::LineFile;
 use sdb_lines::{
     CountingReader, CountingWriter, Counts, LineHandler, LineProgress, RunFault, run_lines,
 };
+use sdb_progress::SaveProgress;
 use sdb_projection::Table;
 use sdb_server::{Clock, SystemClock};
 use sdb_session::Session;
 use sdb_store::{LineWriter, RestoredBackend, SaveFault, Saver};
 use sqlite::Alter;
 use std::alloc::{AllocError, Global};
+use std::fs::Files;
 use std::io::{Error, ErrorKind, Read, StdinLock, Write};
-use std::sync::Wait;
+use std::sync::{Arc, Wait};
 use std::time::Duration;
 use std::{io, thread};
 
@@ -120,7 +122,7 @@ struct SavingWriter<'a, R, W, O> {
 impl<R: Wait + std::time::Clock + Drop, W: LineWriter, O: Write> SavingWriter<'_, R, W, O> {
     // Saves what the backend lists. Tries again each second, at most half a minute.
     fn save(&mut self) -> Result<(), SaveFault> {
-        let mut last = SaveFault::Retry;
+        let mut last = SaveFault::OutOfMemory;
         for _ in 0..ATTEMPTS {
             match self.save_once() {
                 Ok(()) => return Ok(()),
@@ -182,14 +184,15 @@ impl<R: Wait + std::time::Clock + Drop, W: LineWriter, O: Write> Write
 /// [`AllocError`] if an allocation fails before the session, or the error of printing a line.
 pub(crate) fn answer_stored<R, S>(
     rt: R,
-    file: UnreadFile<S>,
+    store: StoreFile<S>,
     table: &Table,
 ) -> anyhow::Result<(u8, Option<LineFile<S>>)>
 where
-    R: AllocGlobal + Input<Reader = StdinLock<'static>> + Print + Eprint,
+    R: AllocGlobal + Input<Reader = StdinLock<'static>> + Print + Eprint + Files,
     R: Wait + std::time::Clock + Copy + Drop,
     S: Alter + Drop,
 {
+    let StoreFile { file, place } = store;
     let (file, restored) = match restore(rt, file) {
         Ok(both) => both,
         Err(error) => return Ok((print_store_fault(&rt, error)?, None)),
@@ -206,7 +209,12 @@ where
         backend: &backend,
         saver,
         number: pass.number(),
-        writer: FileWriter { file },
+        writer: FileWriter {
+            rt,
+            place,
+            progress: Arc::new(rt.alloc(), SaveProgress::new(highest_number))?,
+            file,
+        },
         output: io::writer(&rt),
         fault: None,
     };
@@ -219,7 +227,7 @@ where
     };
     let (ended, writer) = answer_lines(rt.alloc(), handler, rt.reader(), writer);
     let SavingWriter {
-        writer: FileWriter { file },
+        writer: FileWriter { file, .. },
         fault,
         ..
     } = writer;

@@ -33,14 +33,15 @@ fn main(rt: HostRuntime) -> anyhow::Result<ExitCode> {
     if mode.reads_copy() {
         return Ok(ExitCode::from(read_store(&rt, path.as_str(), mode)?));
     }
-    let Some(job) = prepare_job(rt, path.as_str(), mode, table)? else {
-        return Ok(ExitCode::from(STATUS_FAULT));
+    let job = match prepare_job(rt, path.as_str(), mode, table)? {
+        Ok(job) => job,
+        Err(status) => return Ok(ExitCode::from(status)),
     };
     let file = match open_or_create(&rt, path.as_str(), Unknown) {
         Ok(file) => file,
         Err(error) => return Ok(ExitCode::from(print_file_fault(&rt, path.as_str(), error)?)),
     };
-    let (status, file) = run_stored(rt, file, job)?;
+    let (status, file) = run_stored(rt, path.as_str(), file, job)?;
     let closed = match file {
         Some(file) => close(file),
         None => Ok(()),

@@ -1,10 +1,11 @@
 //! Where the lines of a journal are written.
+use sdb_progress::RoundFailure;
 
 /// The reason why a group of lines isn't committed.
 #[derive(Clone, Copy, PartialEq, Eq, Debug, Drop)]
 pub enum WriteFault {
     /// Nothing is written, and the call can be repeated.
-    Retry,
+    Retry(RoundFailure),
     /// No call will succeed. A part of the group may be written.
     Closed,
 }
@@ -19,6 +20,9 @@ pub trait LineWriter {
 
     // Each crash leaves exactly these lines.
     ghost has_lines: { List (List ℕ) → Self → Type 0 };
+
+    /// Returns whether the lines are where a restart reads them. A file may have been moved.
+    fn is_in_place(&self) -> bool;
 
     /// Appends the lines, and commits them: after `Ok` a crash leaves all of them.
     ///

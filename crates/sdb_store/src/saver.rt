@@ -9,6 +9,7 @@ ghost use Rattle.sdb_store.specs.SaverModel.{lines_of, saver_pass, unwritten_lin
 use crate::line_writer::{LineWriter, WriteFault};
 use sdb_backend::{Backend, EntryAt, Pass, SHARD_COUNT};
 use sdb_journal::{entry_line, number_line};
+use sdb_progress::RoundFailure;
 use sdb_submit::Desk;
 use sdb_value::MAX;
 use std::alloc::{AllocError, Global};
@@ -25,23 +26,35 @@ pub enum SaveFault {
     #[error("out of memory")]
     OutOfMemory,
     /// The lines can't be written now. Nothing is lost, and the round can be repeated.
-    #[error("the lines can't be written")]
-    Retry,
+    #[error("{0}")]
+    Retry(RoundFailure),
     /// The journal is closed by a failure.
     #[error("the journal is closed by a failure")]
     Closed,
     /// The list of stored entries isn't complete.
     #[error("the list of stored entries isn't complete")]
     Incomplete,
+    /// The lines aren't where a restart reads them.
+    #[error("the file was moved or removed")]
+    Moved,
     /// No number is left for a session.
     #[error("no number is left for a session")]
     OutOfNumbers,
 }
 
 impl SaveFault {
+    /// Returns why the round failed, if it can be repeated.
+    pub fn failure(self) -> Option<RoundFailure> {
+        match self {
+            SaveFault::OutOfMemory => Some(RoundFailure::OutOfMemory),
+            SaveFault::Retry(failure) => Some(failure),
+            _ => None,
+        }
+    }
+
     /// Returns whether the round can be repeated.
     pub fn is_temporary(self) -> bool {
-        matches!(self, SaveFault::OutOfMemory | SaveFault::Retry)
+        self.failure().is_some()
     }
 }
 
@@ -54,7 +67,7 @@ impl From<AllocError> for SaveFault {
 impl From<WriteFault> for SaveFault {
     fn from(fault: WriteFault) -> SaveFault {
         match fault {
-            WriteFault::Retry => SaveFault::Retry,
+            WriteFault::Retry(failure) => SaveFault::Retry(failure),
             WriteFault::Closed => SaveFault::Closed,
         }
     }
@@ -106,8 +119,9 @@ impl Saver {
     /// # Errors
     ///
     /// [`SaveFault::Retry`], [`SaveFault::Closed`] if the writer fails, [`SaveFault::OutOfMemory`] if
-    /// an allocation fails, [`SaveFault::Incomplete`] if the backend's list isn't complete, and
-    /// [`SaveFault::OutOfNumbers`] if a journal can't have the number.
+    /// an allocation fails, [`SaveFault::Incomplete`] if the backend's list isn't complete,
+    /// [`SaveFault::Moved`] if the writer isn't in place, and [`SaveFault::OutOfNumbers`] if a journal
+    /// can't have the number.
     pub fn save_round<R: Wait + Drop, W: LineWriter>(
         &mut self,
         backend: &Backend<R>,
@@ -121,6 +135,9 @@ impl Saver {
         ensures kept_on_err { OnErr result (AddsLines backend.now self.old self.new) }
         ensures block { HasBlockLine self.old → HasBlockLine self.new }
     {
+        if !writer.is_in_place() {
+            return Err(SaveFault::Moved);
+        }
         self.add_block(backend, number)?;
         self.add_entries(backend)?;
         self.write_group(writer)

@@ -18,8 +18,8 @@ const LAST_SECONDS: u64 = 3;
 
 /// A listener of rounds. It is notified after each round that was committed or has failed.
 pub trait RoundListener {
-    /// Wakes the threads that wait for a round.
-    fn notify(&self);
+    /// Wakes the threads that wait for a round, and records its result.
+    fn notify(&self, saved: Result<(), SaveFault>);
 }
 
 /// Saves what the backend lists, in rounds, until the progress is closed and a last round is
@@ -46,10 +46,10 @@ pub fn save_until_closed<R: Wait + Clock + Drop, W: LineWriter, L: RoundListener
         let saved = save_once(backend, saver, writer, progress);
         if is_end(saved, is_last, is_last && is_late(rt, &mut closing_since)) {
             progress.end();
-            listener.notify();
+            listener.notify(saved);
             return saved;
         }
-        listener.notify();
+        listener.notify(saved);
         pause(rt, saved, progress);
     }
     unreachable!()
