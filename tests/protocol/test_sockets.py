@@ -1,5 +1,6 @@
 """What no example of the documents shows: handshakes, binary and long messages, and the statuses of closed connections."""
 import json
+import signal
 import socket
 
 import pytest
@@ -116,3 +117,24 @@ def test_port_and_process_are_released(program):
     assert not server.is_running()
     with pytest.raises(ConnectionRefusedError):
         socket.create_connection(server.address, 5)
+
+
+def test_localhost(program):
+    from support.server import Server
+
+    with Server(program, address="localhost:0") as server:
+        assert server.address[0] == "127.0.0.1"
+        assert server.enter()
+
+
+def test_hundreds_of_connections_wait_to_be_accepted(program):
+    from support.server import Server
+
+    with Server(program) as server:
+        server.process.send_signal(signal.SIGSTOP)
+        # (the system completes each handshake, and drops those for which the queue has no room)
+        waiting = [socket.create_connection(server.address, 5) for _ in range(400)]
+        server.process.send_signal(signal.SIGCONT)
+        for connection in waiting:
+            connection.close()
+        assert server.enter()

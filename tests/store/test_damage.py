@@ -302,5 +302,5 @@ def test_recovery_of_an_undamaged_store(program, killed, tmp_path):
 def test_recovery_needs_a_new_file(program, killed, tmp_path):
     file = copied(killed, tmp_path)
     before = contents(tmp_path)
-    assert ended(program, file, ["--recover", str(file)]) == (1, "", "store: --recover needs a new file\n")
+    assert ended(program, file, ["--recover", str(file)]) == (1, "", f"store: {file}: the file exists\n")
     assert contents(tmp_path) == before

@@ -108,6 +108,8 @@ def test_a_missing_file_is_not_created(program, tmp_path, task):
         ["--load"],
         ["--dump"],
         ["--recover", "y"],
+        ["--backup", "y"],
+        ["--store", "x", "--recover", "y", "--backup", "z"],
         ["--store", "x", "--check", "--recover", "y"],
         ["--store", "x", "--lines", "--recover", "y"],
         ["--store", "x", "--check", "--dump"],

@@ -328,6 +328,58 @@ def wait_until(holds):
         time.sleep(0.05)
 
 
+# Backups --------------------------------------------------------------------------------------------------
+
+
+def backup(program, file, copy):
+    """Stores a copy of a store in a new one, and returns its number of entries."""
+    command = [program, "--store", str(file), "--backup", str(copy)]
+    ended = subprocess.run(command, capture_output=True, text=True, timeout=END, check=False)
+    assert (ended.returncode, ended.stderr) == (0, "")
+    documents, entries = re.fullmatch(r"saved (\d+) documents, (\d+) entries\n", ended.stdout).groups()
+    checked = subprocess.run([program, "--store", str(copy), "--check"], capture_output=True, text=True, timeout=END, check=False)
+    assert checked.stdout == f"accepted {documents} documents, {entries} entries\n"
+    return int(entries)
+
+
+def test_backups_while_clients_edit(program, tmp_path):
+    file, copies = tmp_path / "store", []
+    with Server(program, "--store", str(file)) as server:
+        editors = [Editor(server.address, str(k % 3), f"e{k}") for k in range(6)]
+        for editor in editors:
+            editor.start()
+        for k in range(6):
+            acknowledged = {it.source: (it.document, dict(it.stored)) for it in editors}
+            copies.append((backup(program, file, tmp_path / f"copy{k}"), acknowledged))
+    for editor in editors:
+        editor.join()
+    assert [it[0] for it in copies] == sorted(it[0] for it in copies) and copies[0][0] < copies[-1][0]
+    for k, (entries, acknowledged) in enumerate(copies):
+        with Server(program, "--store", str(tmp_path / f"copy{k}")) as server:
+            logs = {document: log_of(server.address, document) for document in "012"}
+        assert sum(len(log) for log in logs.values()) == entries
+        for source, (document, stored) in acknowledged.items():
+            assert all(logs[document].get(v) == (source, seq) for seq, v in stored.items())
+
+
+def test_a_backup_of_a_stopped_server(program, filled, tmp_path):
+    file, log = filled
+    before = file.read_bytes()
+    assert backup(program, file, tmp_path / "copy") == len(log)
+    assert file.read_bytes() == before
+    assert served_log(program, tmp_path / "copy") == log
+
+
+def test_refused_backups(program, filled, tmp_path):
+    file, _ = filled
+    missing = [program, "--store", str(tmp_path / "missing"), "--backup", str(tmp_path / "copy")]
+    there = [program, "--store", str(file), "--backup", str(file)]
+    for command, message in [(missing, f"{tmp_path}/missing: no such file"), (there, f"{file}: the file exists")]:
+        ended = subprocess.run(command, capture_output=True, text=True, timeout=END, check=False)
+        assert (ended.returncode, ended.stdout, ended.stderr) == (1, "", f"store: {message}\n")
+    assert not list(tmp_path.iterdir())
+
+
 # A file that is moved -------------------------------------------------------------------------------------
 
 

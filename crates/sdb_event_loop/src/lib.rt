@@ -9,7 +9,7 @@
 //! than these are answered for long, their loops wait.
 //!
 //! Parsing takes up to 170 times the length of a message. So at most two clients with 64 KiB or more
-//! of unanswered input are served at once. Others wait, without holding up a loop.
+//! of unanswered input are served at once, or for a second. Others wait, without holding up a loop.
 #![tactic(auto)]
 
 mod acceptor;
@@ -27,7 +27,7 @@ mod serving;
 mod sessions;
 mod sweep;
 
-pub use listen::listen_on_loops;
+pub use listen::{bind_listener, listen_on_loops};
 pub use sdb_connection::LoopServer;
 pub use sdb_link::VERSION;
 pub use sdb_loop_state::{DEFAULT_LOOP_CLIENTS, LOOP_CLIENT_LIMIT, LOOP_LIMIT, LoopOptions};

@@ -6,6 +6,7 @@ ghost use Rattle.sdb_connection.specs.LoopModel.{IsHostOfLoops, loops_backend};
 ghost use Rattle.sdb_connection.specs.PassLocks.{NamesBackend};
 
 use crate::loop_threads::{LoopThreads, start_loops};
+use mio::net::TcpListener as MioListener;
 use sdb_backend::{Host, Pass};
 use sdb_connection::{LoopContext, LoopPass, LoopServer, PassBrand, supply_passes};
 use sdb_session::Policy;
@@ -13,10 +14,20 @@ use std::alloc::Global;
 use std::collections::VecDeque;
 use std::io;
 use std::marker::Brand;
-use std::net::{Net, TcpListener, TcpStream};
+use std::net::{Net, SocketAddr, TcpListener, TcpStream};
 use std::sync::{Arc, Wait};
 use std::thread::Threads;
 use std::time::Clock;
+
+/// Binds a listener for [`listen_on_loops`]. As many connections may wait to be accepted as the
+/// system permits.
+///
+/// # Errors
+///
+/// The [`io::Error`] of the system.
+pub fn bind_listener(net: &impl Net, address: SocketAddr) -> io::Result<TcpListener> {
+    Ok(TcpListener::from(MioListener::bind(net, address)?))
+}
 
 /// Accepts connections and serves their clients on the server's loops, until the server is
 /// [stopped](LoopServer::stop). Returns the passes that the host created here, unless they

@@ -12,6 +12,7 @@ use crate::error::LineFileError;
 use crate::files::{FileContents, read_files};
 use crate::line_file::UnreadFile;
 use crate::line_table::{is_empty_schema, is_line_schema};
+use crate::online::read_online_files;
 use crate::opening::settle;
 use sqlite::{Alter, Connection, FileStore, Files, Options};
 use sqlite_disk::{Disk, Memory};
@@ -41,6 +42,24 @@ pub fn open_copy(
         (image : Image) × IsUndamaged image × IsReadOf image opened) }
 {
     let contents = read_files(rt, path)?;
+    open_contents(rt.alloc(), contents)
+}
+
+/// Opens a copy of the file of lines at a path, in memory, while another process may write it.
+/// Nothing is created, written or locked.
+///
+/// # Errors
+///
+/// - As [`read_online_files`].
+/// - As [`open_contents`].
+pub fn open_online_copy(
+    rt: &HostRuntime,
+    path: &str,
+) -> Result<UnreadFile<FileStore<Memory>>, LineFileError>
+    ensures { IfOk result (λ opened. HasCleanDisk (unread_state opened) →
+        (image : Image) × IsUndamaged image × IsReadOf image opened) }
+{
+    let contents = read_online_files(rt, path)?;
     open_contents(rt.alloc(), contents)
 }
 

@@ -33,6 +33,9 @@ pub enum LineFileError {
     /// The file or its log is damaged, and an open would lose lines.
     #[error("{0}")]
     DamagedFiles(Damage),
+    /// The files changed while they were read, and so often that no read was of one state.
+    #[error("another process changes the file too often")]
+    Changing,
     /// The file is a database of another program.
     #[error("the file belongs to another program")]
     ForeignFile,

@@ -105,7 +105,8 @@ fn creation_cause(rt: &HostRuntime, path: &str) -> LineFileError {
     }
 }
 
-fn refuse_damage(file_len: u64, log: &[u8]) -> Result<(), LineFileError>
+/// Refuses files that are damaged.
+pub(crate) fn refuse_damage(file_len: u64, log: &[u8]) -> Result<(), LineFileError>
     ensures { OnOk result ((damage : Damage) → ¬ IsDamaged damage file_len log.now) }
 {
     match find_damage(file_len, log) {
@@ -116,11 +117,7 @@ fn refuse_damage(file_len: u64, log: &[u8]) -> Result<(), LineFileError>
 
 // Returns the file at the path, or that of a link at the path, and the bytes of its log.
 fn find_files(rt: &HostRuntime, path: &str) -> Result<(Option<File>, Vec<u8>), LineFileError> {
-    let real = match fs::canonicalize(rt, path) {
-        Ok(real) => format!(in rt.alloc(); "{}", real.as_str())?,
-        Err(error) if error.kind() == ErrorKind::NotFound => String::from_str(rt.alloc(), path)?,
-        Err(error) => return Err(LineFileError::from(error)),
-    };
+    let real = real_path(rt, path)?;
     let file = open_unlocked(rt, real.as_str())?;
     let log_path = format!(in rt.alloc(); "{real}-wal")?;
     let log = match open_unlocked(rt, log_path.as_str())? {
@@ -130,8 +127,27 @@ fn find_files(rt: &HostRuntime, path: &str) -> Result<(Option<File>, Vec<u8>), L
     Ok((file, log))
 }
 
+/// Returns the path, or that of the file to which a link at the path leads.
+pub(crate) fn real_path(rt: &HostRuntime, path: &str) -> Result<String, LineFileError> {
+    match fs::canonicalize(rt, path) {
+        Ok(real) => Ok(format!(in rt.alloc(); "{}", real.as_str())?),
+        Err(error) if error.kind() == ErrorKind::NotFound => {
+            Ok(String::from_str(rt.alloc(), path)?)
+        }
+        Err(error) => Err(LineFileError::from(error)),
+    }
+}
+
 // Opens a file for reading, unless it doesn't exist. No process that writes it has it open then.
 fn open_unlocked(rt: &HostRuntime, path: &str) -> Result<Option<File>, LineFileError> {
+    match open_regular(rt, path)? {
+        Some(file) if is_locked(&file) => Err(LineFileError::Busy),
+        opened => Ok(opened),
+    }
+}
+
+/// Opens a file for reading, unless it doesn't exist.
+pub(crate) fn open_regular(rt: &HostRuntime, path: &str) -> Result<Option<File>, LineFileError> {
     let found = match fs::metadata(rt, path) {
         Ok(found) => found,
         Err(error) if error.kind() == ErrorKind::NotFound => return Ok(None),
@@ -143,11 +159,7 @@ fn open_unlocked(rt: &HostRuntime, path: &str) -> Result<Option<File>, LineFileE
     if !found.is_file() {
         return Err(LineFileError::NotRegular);
     }
-    let file = File::open(rt, path)?;
-    if is_locked(&file) {
-        return Err(LineFileError::Busy);
-    }
-    Ok(Some(file))
+    Ok(Some(File::open(rt, path)?))
 }
 
 // Locks the file for reading. Returns whether another process has locked it for writing.
@@ -158,7 +170,8 @@ fn is_locked(file: &File) -> bool {
     io::Error::from_raw_os_error(os::errno()).kind() == ErrorKind::WouldBlock
 }
 
-fn read_all(alloc: Global, mut file: File) -> Result<Vec<u8>, LineFileError> {
+/// Reads a file to its end.
+pub(crate) fn read_all(alloc: Global, mut file: File) -> Result<Vec<u8>, LineFileError> {
     let mut bytes = Vec::new(alloc);
     file.read_to_end(&mut bytes)?;
     Ok(bytes)

@@ -7,7 +7,9 @@ ghost use Rattle.sdb_event_loop.specs.LoopModel.{IsHostOfLoops};
 use crate::close::{print_close, print_close_fault};
 use sdb_backend::Backend;
 use sdb_cli::{STATUS_FAULT, STATUS_OK, print_refusal};
-use sdb_event_loop::{DEFAULT_LOOP_CLIENTS, LoopOptions, LoopServer, listen_on_loops};
+use sdb_event_loop::{
+    DEFAULT_LOOP_CLIENTS, LoopOptions, LoopServer, bind_listener, listen_on_loops,
+};
 use sdb_projection::Table;
 use std::alloc::{AllocError, Global};
 use std::io::{ErrorKind, Read, StdinLock};
@@ -81,7 +83,7 @@ where
     if let Some(status) = refuse_closed_input(&rt, until)? {
         return Ok(status);
     }
-    match TcpListener::bind(&rt, address) {
+    match bind_listener(&rt, address) {
         Ok(listener) => serve_at(rt, listener, until, options, table),
         Err(error) => {
             eprintln!(rt; "error: cannot listen on {address}: {error}")?;

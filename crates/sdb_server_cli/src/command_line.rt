@@ -15,7 +15,7 @@ use std::sync::Wait;
 use std::thread::Threads;
 use std::time::Clock;
 
-const NO_STORE: &str = "error: --check, --dump, --load and --recover need --store";
+const NO_STORE: &str = "error: --check, --dump, --load, --recover and --backup need --store";
 
 const NO_FILE: &str = "error: --store is an option of the program that opens files";
 
@@ -93,9 +93,9 @@ where
             until,
             options,
         } => serve_clients(rt, address, until, options, table),
-        RunMode::Check | RunMode::Dump | RunMode::Load | RunMode::Recover => {
-            Ok(print_refusal(&rt, NO_STORE)?)
-        }
+        RunMode::Check | RunMode::Dump | RunMode::Load | RunMode::Recover | RunMode::Backup => Ok(
+            print_refusal(&rt, NO_STORE)?,
+        ),
     }
 }
 

@@ -21,6 +21,6 @@ pub use command_line::{ParsedArgs, answer_input, parse_run, run, run_mode};
 pub use load::{LoadedDump, store_dump};
 pub use options::{Options, RunMode, StorePaths, parse_options};
 pub use projection_option::{ProjectionOptionError, table_of};
-pub use recover::{prepare_recovery, recover_lines};
+pub use recover::{backup_lines, is_new_path, recover_lines};
 pub use store_file::{print_closed, print_file_fault};
 pub use store_task::{StoreJob, prepare_job, read_copy, run_stored};

@@ -6,7 +6,7 @@ use clap::{Arg, ArgAction, ArgGroup, ArgMatches, Command, Error};
 use sdb_event_loop::{LOOP_CLIENT_LIMIT, LOOP_LIMIT, VERSION};
 use sdb_projection::Table;
 use std::alloc::{AllocError, Global};
-use std::net::SocketAddr;
+use std::net::{IpAddr, Ipv4Addr, SocketAddr};
 
 // The maximum of `--connections`.
 const CONNECTION_LIMIT: u64 = 1_000_000;
@@ -28,6 +28,9 @@ const LOAD_HELP: &str = "With --store, store the dump at standard input in a new
 
 const RECOVER_HELP: &str =
     "With --store, store what is left of the damaged file in the new file NEW";
+
+const BACKUP_HELP: &str =
+    "With --store, store a copy of the file, which may be served, in the new file NEW";
 
 const NO_ADDRESS: &str = "error: --listen takes an address, such as 127.0.0.1:8080";
 
@@ -72,9 +75,10 @@ fn with_store_options<'a>(alloc: Global, command: Command<'a>) -> Result<Command
     let check = store_task_option(alloc, "check", CHECK_HELP)?;
     let load = store_task_option(alloc, "load", LOAD_HELP)?;
     let check = check.conflicts_with("load")?;
-    let recover = recover_option(alloc)?;
+    let recover = copy_option(alloc, "recover", RECOVER_HELP)?;
+    let backup = copy_option(alloc, "backup", BACKUP_HELP)?.conflicts_with("recover")?;
     let command = command.arg(store_option(alloc))?.arg(check)?.arg(load)?;
-    command.arg(recover)
+    command.arg(recover)?.arg(backup)
 }
 
 fn lines_option<'a>(alloc: Global) -> Result<Arg<'a>, AllocError> {
@@ -167,14 +171,15 @@ fn store_task_option<'a>(
     as_store_task(task)
 }
 
-fn recover_option<'a>(alloc: Global) -> Result<Arg<'a>, AllocError> {
-    let recover = Arg::new(alloc, "recover")
-        .long("recover")
+// Returns the option of a task that makes a new store of another one.
+fn copy_option<'a>(alloc: Global, name: &'a str, help: &'a str) -> Result<Arg<'a>, AllocError> {
+    let copy = Arg::new(alloc, name)
+        .long(name)
         .value_name("NEW")
-        .help(RECOVER_HELP)
+        .help(help)
         .action(ArgAction::Set);
-    let recover = as_store_task(recover)?;
-    recover.conflicts_with("check")?.conflicts_with("load")
+    let copy = as_store_task(copy)?;
+    copy.conflicts_with("check")?.conflicts_with("load")
 }
 
 // Makes an option a task on a store, beside which the server does nothing else.
@@ -197,7 +202,7 @@ fn job_group<'a>(alloc: Global) -> Result<ArgGroup<'a>, AllocError> {
     let job = ArgGroup::new(alloc, "job").required(true).multiple(true);
     let job = job.arg("lines")?.arg("listen")?;
     let job = job.arg("check")?.arg("dump")?;
-    job.arg("load")?.arg("recover")
+    job.arg("load")?.arg("recover")?.arg("backup")
 }
 
 // Creates the group of options of which `--dump` requires one.
@@ -206,7 +211,7 @@ fn dump_group<'a>(alloc: Global) -> Result<ArgGroup<'a>, AllocError> {
     dumped.arg("until-eof")?.arg("store")
 }
 
-/// The mode in which the program runs. The last four need a store.
+/// The mode in which the program runs. The last five need a store.
 #[derive(Clone, Copy, PartialEq, Eq, Drop)]
 pub enum RunMode {
     /// One session of lines on standard input and output.
@@ -228,6 +233,8 @@ pub enum RunMode {
     Load,
     /// The storing of what is left of a store in a new one.
     Recover,
+    /// The storing of a copy of a store, which may be served, in a new one.
+    Backup,
 }
 
 impl RunMode {
@@ -253,8 +260,8 @@ pub struct Options {
 pub struct StorePaths {
     /// The path of the file that keeps the documents.
     pub file: String,
-    /// The path of the new file for what is left of that file, with `--recover`.
-    pub recovered: Option<String>,
+    /// The path of the new file, with `--recover` and `--backup`.
+    pub new: Option<String>,
 }
 
 /// Parses the options of a command line whose first word is the name of the program.
@@ -278,11 +285,11 @@ fn parse_store(alloc: Global, matches: &ArgMatches<'_>) -> Result<Option<StorePa
         return Ok(None);
     };
     let file = String::from_str(alloc, path)?;
-    let recovered = match matches.get_str("recover") {
+    let new = match matches.get_str("recover").or(matches.get_str("backup")) {
         Some(path) => Some(String::from_str(alloc, path)?),
         None => None,
     };
-    Ok(Some(StorePaths { file, recovered }))
+    Ok(Some(StorePaths { file, new }))
 }
 
 fn parse_job(matches: &ArgMatches<'_>) -> Result<RunMode, &'static str> {
@@ -292,7 +299,7 @@ fn parse_job(matches: &ArgMatches<'_>) -> Result<RunMode, &'static str> {
     if matches.get_flag("dump") && matches.contains_id("store") {
         return Err(NO_DUMP);
     }
-    let Ok(address) = address.parse() else {
+    let Some(address) = parse_address(address) else {
         return Err(NO_ADDRESS);
     };
     Ok(RunMode::Listen {
@@ -305,6 +312,17 @@ fn parse_job(matches: &ArgMatches<'_>) -> Result<RunMode, &'static str> {
             is_proxied: matches.get_flag("proxy"),
         },
     })
+}
+
+// Returns the address of a text as `127.0.0.1:8080`, `[::1]:8080` or `localhost:8080`.
+fn parse_address(text: &str) -> Option<SocketAddr> {
+    match text.strip_prefix("localhost:") {
+        Some(port) => {
+            let localhost = IpAddr::V4(Ipv4Addr::LOCALHOST);
+            Some(SocketAddr::new(localhost, port.parse().ok()?))
+        }
+        None => text.parse().ok(),
+    }
 }
 
 // Returns the mode of a command line without `--listen`.
@@ -320,6 +338,9 @@ fn parse_other_job(matches: &ArgMatches<'_>) -> RunMode {
     }
     if matches.contains_id("recover") {
         return RunMode::Recover;
+    }
+    if matches.contains_id("backup") {
+        return RunMode::Backup;
     }
     RunMode::Lines
 }

@@ -1,4 +1,4 @@
-//! Reading what is left of a damaged store.
+//! Reading the lines of a copy of a store, for a new one.
 ghost use Rattle.std.specs.Prelude.{IfOk};
 ghost use Rattle.sdb_store.specs.RestorerModel.{IsRestorer};
 
@@ -16,9 +16,9 @@ use std::fs::Files;
 /// # Errors
 ///
 /// The [`io::Error`](std::io::Error) of looking for the file, or of printing a line.
-pub fn prepare_recovery<R: Eprint + Files>(rt: &R, path: &str) -> anyhow::Result<bool> {
+pub fn is_new_path<R: Eprint + Files>(rt: &R, path: &str) -> anyhow::Result<bool> {
     if fs::exists(rt, path)? {
-        eprintln!(rt; "store: --recover needs a new file")?;
+        eprintln!(rt; "store: {path}: the file exists")?;
         return Ok(false);
     }
     Ok(true)
@@ -71,38 +71,63 @@ where
     R: AllocGlobal + Drop,
     S: Alter + Drop,
 {
-    let alloc = rt.alloc();
-    let lines = accepted_lines(alloc, copy)?;
-    match count_lines(rt, lines.as_slice()) {
-        Ok(counts) => Ok(LoadedDump {
-            lines,
-            counts,
-            verb: "recovered",
-        }),
-        Err(_) => Err(LineFileError::OutOfMemory),
+    let (lines, read) = accepted_lines(rt.alloc(), copy)?;
+    match read {
+        Err(LineFileError::OutOfMemory) => Err(LineFileError::OutOfMemory),
+        _ => counted_lines(rt, lines, "recovered"),
     }
 }
 
-// Returns the lines up to the first one that isn't accepted.
+/// Reads all lines of a copy of a store.
+///
+/// # Errors
+///
+/// The [`LineFileError`] of reading a line, and [`LineFileError::Refused`] if it isn't accepted.
+pub fn backup_lines<R, S>(rt: R, copy: UnreadFile<S>) -> Result<LoadedDump, LineFileError>
+where
+    R: AllocGlobal + Drop,
+    S: Alter + Drop,
+{
+    let (lines, read) = accepted_lines(rt.alloc(), copy)?;
+    read?;
+    counted_lines(rt, lines, "saved")
+}
+
+// Returns the lines up to the first one that isn't accepted, and why it isn't.
 fn accepted_lines<S: Alter + Drop>(
     alloc: Global,
     copy: UnreadFile<S>,
-) -> Result<Vec<Vec<u8>>, LineFileError> {
+) -> Result<(Vec<Vec<u8>>, Result<(), LineFileError>), LineFileError> {
     let mut sink = AcceptedLines {
         restorer: Restorer::new(alloc)?,
         lines: Vec::new(alloc),
         is_out_of_memory: false,
     };
-    let read = copy.restore(&mut sink);
-    let AcceptedLines {
-        lines,
-        is_out_of_memory,
-        ..
-    } = sink;
-    match read {
-        Err(_) if is_out_of_memory => Err(LineFileError::OutOfMemory),
-        Err(error) if matches!(error, LineFileError::OutOfMemory) => Err(error),
-        _ => Ok(lines),
+    let read = match copy.restore(&mut sink) {
+        Ok(_) => Ok(()),
+        Err(_) if sink.is_out_of_memory => Err(LineFileError::OutOfMemory),
+        Err(error) => Err(error),
+    };
+    let AcceptedLines { lines, .. } = sink;
+    Ok((lines, read))
+}
+
+// Returns the lines with the numbers of their documents and entries.
+fn counted_lines<R>(
+    rt: R,
+    lines: Vec<Vec<u8>>,
+    verb: &'static str,
+) -> Result<LoadedDump, LineFileError>
+where
+    R: AllocGlobal + Drop,
+{
+    match count_lines(rt, lines.as_slice()) {
+        Ok(counts) => Ok(LoadedDump {
+            lines,
+            counts,
+            verb,
+        }),
+        Err(_) => Err(LineFileError::OutOfMemory),
     }
 }
 

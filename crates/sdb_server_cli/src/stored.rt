@@ -8,7 +8,7 @@ use crate::clients::{ServeOptions, StopCondition, loop_server, print_address, re
 use crate::store_file::{FileWriter, StoreFile, print_store_fault, restore};
 use sdb_backend::{Counts, Host};
 use sdb_cli::{STATUS_FAULT, STATUS_OK};
-use sdb_event_loop::{LoopServer, listen_on_loops};
+use sdb_event_loop::{LoopServer, bind_listener, listen_on_loops};
 use sdb_linefile::LineFile;
 use sdb_progress::{SaveProgress, SaveRecord};
 use sdb_projection::Table;
@@ -48,7 +48,7 @@ where
         Ok(both) => both,
         Err(error) => return Ok((print_store_fault(&rt, error)?, None)),
     };
-    match TcpListener::bind(&rt, address) {
+    match bind_listener(&rt, address) {
         Ok(listener) => {
             let highest = restored.highest_number;
             let progress = Arc::new(rt.alloc(), SaveProgress::new(highest))?;

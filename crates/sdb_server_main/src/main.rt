@@ -3,9 +3,11 @@
 #![tactic(auto)]
 
 use sdb_cli::STATUS_FAULT;
-use sdb_linefile::{close, open_copy, open_or_create, open_sound_copy};
+use sdb_linefile::{
+    LineFileError, close, open_copy, open_online_copy, open_or_create, open_sound_copy,
+};
 use sdb_server_cli::{
-    LoadedDump, ParsedArgs, RunMode, StorePaths, parse_run, prepare_job, prepare_recovery,
+    LoadedDump, ParsedArgs, RunMode, StorePaths, backup_lines, is_new_path, parse_run, prepare_job,
     print_closed, print_file_fault, read_copy, recover_lines, run_mode, run_stored, store_dump,
 };
 use sqlite::Unknown;
@@ -18,17 +20,11 @@ fn main(rt: HostRuntime) -> anyhow::Result<ExitCode> {
         ParsedArgs::Run(mode, table, store) => (mode, table, store),
         ParsedArgs::Help(status) => return Ok(ExitCode::from(status)),
     };
-    let Some(
-        StorePaths {
-            file: path,
-            recovered,
-        },
-    ) = store
-    else {
+    let Some(StorePaths { file: path, new }) = store else {
         return Ok(ExitCode::from(run_mode(rt, mode, table)?));
     };
-    if let Some(new) = recovered {
-        return Ok(ExitCode::from(recover_store(&rt, path.as_str(), new.as_str())?));
+    if let Some(new) = new {
+        return Ok(ExitCode::from(copy_store(&rt, path.as_str(), new.as_str(), mode)?));
     }
     if mode.reads_copy() {
         return Ok(ExitCode::from(read_store(&rt, path.as_str(), mode)?));
@@ -57,19 +53,30 @@ fn read_store(rt: &HostRuntime, path: &str, mode: RunMode) -> anyhow::Result<u8>
     }
 }
 
-// Stores what is left of a store in a new one, and returns the exit status.
-fn recover_store(rt: &HostRuntime, path: &str, new: &str) -> anyhow::Result<u8> {
-    if !prepare_recovery(rt, new)? {
+// Stores what a store has, or what is left of a damaged one, in a new one, and returns the exit
+// status.
+fn copy_store(rt: &HostRuntime, path: &str, new: &str, mode: RunMode) -> anyhow::Result<u8> {
+    if !is_new_path(rt, new)? {
         return Ok(STATUS_FAULT);
     }
-    let copy = match open_sound_copy(rt, path) {
-        Ok(copy) => copy,
-        Err(error) => return print_file_fault(rt, path, error),
+    let lines = match mode {
+        RunMode::Backup => read_lines(rt, path),
+        _ => read_damaged_lines(rt, path),
     };
-    match recover_lines(*rt, copy) {
+    match lines {
         Ok(lines) => store_lines(rt, new, lines),
         Err(error) => print_file_fault(rt, path, error),
     }
+}
+
+// Reads the lines of a store, which may be served.
+fn read_lines(rt: &HostRuntime, path: &str) -> Result<LoadedDump, LineFileError> {
+    backup_lines(*rt, open_online_copy(rt, path)?)
+}
+
+// Reads what is left of the lines of a damaged store.
+fn read_damaged_lines(rt: &HostRuntime, path: &str) -> Result<LoadedDump, LineFileError> {
+    recover_lines(*rt, open_sound_copy(rt, path)?)
 }
 
 // Stores lines in a new store, and returns the exit status.
