@@ -15,7 +15,7 @@ import time
 import pytest
 
 from support.frames import Connection, Fault, text
-from support.server import END, Server
+from support.server import END, ROOT, Server
 
 TYPE = "http://sharejs.org/types/JSONv0"
 NOBODY = 65534  # a user without files
@@ -334,7 +334,7 @@ def wait_until(holds):
 def backup(program, file, copy):
     """Stores a copy of a store in a new one, and returns its number of entries."""
     command = [program, "--store", str(file), "--backup", str(copy)]
-    ended = subprocess.run(command, capture_output=True, text=True, timeout=END, check=False)
+    ended = subprocess.run(command, capture_output=True, text=True, timeout=4 * END, check=False)
     assert (ended.returncode, ended.stderr) == (0, "")
     documents, entries = re.fullmatch(r"saved (\d+) documents, (\d+) entries\n", ended.stdout).groups()
     checked = subprocess.run([program, "--store", str(copy), "--check"], capture_output=True, text=True, timeout=END, check=False)
@@ -342,13 +342,22 @@ def backup(program, file, copy):
     return int(entries)
 
 
+class SlowEditor(Editor):
+    """Pauses after each edit, since the unproved program reads some hundred entries in a second."""
+
+    def message(self, fetch=False):
+        time.sleep(0.2)
+        return super().message(fetch)
+
+
 def test_backups_while_clients_edit(program, tmp_path):
     file, copies = tmp_path / "store", []
     with Server(program, "--store", str(file)) as server:
-        editors = [Editor(server.address, str(k % 3), f"e{k}") for k in range(6)]
+        editors = [SlowEditor(server.address, str(k), f"e{k}") for k in range(3)]
         for editor in editors:
             editor.start()
-        for k in range(6):
+        time.sleep(2)
+        for k in range(4):
             acknowledged = {it.source: (it.document, dict(it.stored)) for it in editors}
             copies.append((backup(program, file, tmp_path / f"copy{k}"), acknowledged))
     for editor in editors:
@@ -368,6 +377,23 @@ def test_a_backup_of_a_stopped_server(program, filled, tmp_path):
     assert backup(program, file, tmp_path / "copy") == len(log)
     assert file.read_bytes() == before
     assert served_log(program, tmp_path / "copy") == log
+
+
+def test_the_script_keeps_the_last_copies(program, filled, tmp_path):
+    script = ROOT / "examples" / "deploy" / "backup"
+    file, log = filled
+    names = []
+    for _ in range(4):
+        ended = subprocess.run([script, program, file, tmp_path, "2"], capture_output=True, text=True, timeout=4 * END, check=False)
+        assert (ended.returncode, ended.stdout) == (0, f"saved 1 documents, {len(log)} entries\n")
+        names.append(max(it.name for it in tmp_path.iterdir()))
+        time.sleep(1.1)  # until the next name
+    assert sorted(it.name for it in tmp_path.iterdir()) == names[2:]
+    assert served_log(program, tmp_path / names[3]) == log
+    for arguments in [[file, "0"], [tmp_path / "missing", "1"]]:
+        found = sorted(tmp_path.iterdir())
+        ended = subprocess.run([script, program, arguments[0], tmp_path, arguments[1]], capture_output=True, timeout=END, check=False)
+        assert ended.returncode != 0 and sorted(tmp_path.iterdir()) == found
 
 
 def test_refused_backups(program, filled, tmp_path):
