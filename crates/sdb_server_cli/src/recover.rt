@@ -73,7 +73,7 @@ where
 {
     let (lines, read) = accepted_lines(rt.alloc(), copy)?;
     match read {
-        Err(LineFileError::OutOfMemory) => Err(LineFileError::OutOfMemory),
+        Err(error) if error == LineFileError::OutOfMemory => Err(error),
         _ => counted_lines(rt, lines, "recovered"),
     }
 }

@@ -122,18 +122,16 @@ struct SavingWriter<'a, R, W, O> {
 impl<R: Wait + std::time::Clock + Drop, W: LineWriter, O: Write> SavingWriter<'_, R, W, O> {
     // Saves what the backend lists. Tries again each second, at most half a minute.
     fn save(&mut self) -> Result<(), SaveFault> {
-        let mut last = SaveFault::OutOfMemory;
-        for _ in 0..ATTEMPTS {
-            match self.save_once() {
-                Ok(()) => return Ok(()),
-                Err(fault) => last = fault,
-            }
-            if !last.is_temporary() {
-                return Err(last);
+        let mut saved = self.save_once();
+        for _ in 1..ATTEMPTS {
+            match saved {
+                Err(fault) if fault.is_temporary() => {}
+                _ => return saved,
             }
             thread::sleep(&self.rt, Duration::from_secs(1));
+            saved = self.save_once();
         }
-        Err(last)
+        saved
     }
 
     // Saves what was stored last, unless saving has failed.
