@@ -1707,7 +1707,7 @@ var Doc = class extends Emitter {
    * @returns {Promise<this>} is fulfilled when the document is loaded and the server sends its operations
    */
   subscribe() {
-    return ignorable(asked(this, { type: "subscribe" }).then(() => this));
+    return ignorable(subscribed(this));
   }
   /**
    * Unsubscribes from the document. Pending edits are still sent.
@@ -1718,7 +1718,8 @@ var Doc = class extends Emitter {
   }
   /**
    * Waits until nothing is pending, unsubscribes, and drops the document: the client then returns another object for
-   * it. If `Client.document` is called for it before, the document stays.
+   * it. Edits and subscriptions after this call are refused with ERR_CLOSED, and never sent. If `Client.document` is
+   * called for it before the end, the document stays and takes edits again.
    * @param {{discard?: boolean}} [options] `discard` drops pending edits instead of waiting for them
    * @returns {Promise<void>}
    */
@@ -1890,20 +1891,32 @@ function asked(doc, input) {
 function until(core, holds, begins = false) {
   return new Promise((resolve, reject) => run(core, { type: "until", holds, begins, waiter: { resolve, reject } }));
 }
+function checkStaying({ leaving }) {
+  if (leaving !== null)
+    refuse("ERR_CLOSED");
+}
 function submitted(doc, read, options) {
   const { source = doc.source } = options || {};
+  const core = coreOf(doc);
   const waiter = { resolve: null, reject: null };
   const stored = new Promise((resolve, reject) => Object.assign(waiter, { resolve, reject }));
   try {
-    run(coreOf(doc), { type: "submit", content: read(), source, waiter });
+    checkStaying(core);
+    run(core, { type: "submit", content: read(), source, waiter });
   } catch (error) {
     return Promise.reject(error);
   }
   return ignorable(stored);
 }
+async function subscribed(doc) {
+  checkStaying(coreOf(doc));
+  await asked(doc, { type: "subscribe" });
+  return doc;
+}
 async function createdIfAbsent(doc, data) {
   const core = coreOf(doc);
   const { machine } = core;
+  checkStaying(core);
   machine.checkLoaded();
   const read = readData(data);
   if (machine.data === void 0) {

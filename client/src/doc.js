@@ -168,7 +168,7 @@ export class Doc extends Emitter {
    * @returns {Promise<this>} is fulfilled when the document is loaded and the server sends its operations
    */
   subscribe() {
-    return ignorable(asked(this, { type: 'subscribe' }).then(() => this));
+    return ignorable(subscribed(this));
   }
 
   /**
@@ -181,7 +181,8 @@ export class Doc extends Emitter {
 
   /**
    * Waits until nothing is pending, unsubscribes, and drops the document: the client then returns another object for
-   * it. If `Client.document` is called for it before, the document stays.
+   * it. Edits and subscriptions after this call are refused with ERR_CLOSED, and never sent. If `Client.document` is
+   * called for it before the end, the document stays and takes edits again.
    * @param {{discard?: boolean}} [options] `discard` drops pending edits instead of waiting for them
    * @returns {Promise<void>}
    */
@@ -366,22 +367,36 @@ function until(core, holds, begins = false) {
   return new Promise((resolve, reject) => run(core, { type: 'until', holds, begins, waiter: { resolve, reject } }));
 }
 
+// A document that is being destroyed takes no more edits and subscriptions.
+function checkStaying({ leaving }) {
+  if (leaving !== null) refuse('ERR_CLOSED');
+}
+
 // An edit that can't be applied here is refused before `data` changes.
 function submitted(doc, read, options) {
   const { source = doc.source } = options || {};
+  const core = coreOf(doc);
   const waiter = { resolve: null, reject: null };
   const stored = new Promise((resolve, reject) => Object.assign(waiter, { resolve, reject }));
   try {
-    run(coreOf(doc), { type: 'submit', content: read(), source, waiter });
+    checkStaying(core);
+    run(core, { type: 'submit', content: read(), source, waiter });
   } catch (error) {
     return Promise.reject(error);
   }
   return ignorable(stored);
 }
 
+async function subscribed(doc) {
+  checkStaying(coreOf(doc));
+  await asked(doc, { type: 'subscribe' });
+  return doc;
+}
+
 async function createdIfAbsent(doc, data) {
   const core = coreOf(doc);
   const { machine } = core;
+  checkStaying(core);
   machine.checkLoaded();
   const read = readData(data);
   if (machine.data === undefined) {

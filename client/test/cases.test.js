@@ -1017,6 +1017,45 @@ test('a document that is requested while it is being destroyed stays', OPTIONS, 
   assert.strictEqual(doc.state, 'live');
 });
 
+test('destroy refuses later edits at once, sends none of them, and waits for the earlier ones', OPTIONS, async () => {
+  for (const isPending of [true, false]) {
+    const { client, doc, events, socket } = loaded();
+    const edit = isPending ? doc.submit(insert(3, 'd')) : Promise.resolve({ version: 3 });
+    socket.taken();
+    const leaving = doc.destroy();
+    const refuseAll = async () => {
+      const calls = [doc.submit(insert(0, 'x')), doc.create('x'), doc.remove(), doc.createIfAbsent('x'), doc.subscribe()];
+      for (const one of calls) await assert.rejects(one, { code: 'ERR_CLOSED' });
+    };
+    await refuseAll();
+    if (isPending) socket.answer(acknowledged(3, 1));
+    await flush();
+    await refuseAll(); // while the answer to `u` is outstanding
+    assert.deepStrictEqual(socket.taken(), [{ a: 'u', ...ADDRESS }]);
+    assert.deepStrictEqual([doc.data, doc.pending], [isPending ? 'abcd' : 'abc', 0]);
+    assert.deepStrictEqual(await edit, { version: 3 });
+    socket.answer({ a: 'u', ...ADDRESS });
+    await leaving;
+    await refuseAll();
+    assert.deepStrictEqual(socket.taken(), []);
+    assert.deepStrictEqual(namesOf(events), isPending ? ['stored'] : []);
+    assert.notStrictEqual(client.document(ADDRESS.c, ADDRESS.d), doc);
+  }
+});
+
+test('a document that is requested again while it is being destroyed takes edits again', OPTIONS, async () => {
+  const { client, doc, socket } = loaded();
+  const leaving = doc.destroy();
+  await assert.rejects(doc.submit(insert(0, 'x')), { code: 'ERR_CLOSED' });
+  assert.strictEqual(client.document(ADDRESS.c, ADDRESS.d), doc);
+  const edit = doc.submit(insert(0, 'y'));
+  socket.answer(acknowledged(3, 1));
+  assert.deepStrictEqual(await edit, { version: 3 });
+  socket.answer({ a: 'u', ...ADDRESS });
+  await leaving;
+  holds(doc, 4, 'yabc');
+});
+
 test('destroy while disconnected: at once without pending edits, or if they are discarded', OPTIONS, async () => {
   const { client, doc, events } = loaded();
   client.disconnect();

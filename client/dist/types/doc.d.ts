@@ -125,7 +125,8 @@ export class Doc<T = any> extends Emitter<DocEvents<T>> {
     unsubscribe(): Promise<void>;
     /**
      * Waits until nothing is pending, unsubscribes, and drops the document: the client then returns another object for
-     * it. If `Client.document` is called for it before, the document stays.
+     * it. Edits and subscriptions after this call are refused with ERR_CLOSED, and never sent. If `Client.document` is
+     * called for it before the end, the document stays and takes edits again.
      * @param {{discard?: boolean}} [options] `discard` drops pending edits instead of waiting for them
      * @returns {Promise<void>}
      */
