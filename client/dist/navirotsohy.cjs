@@ -877,6 +877,7 @@ var Machine = class {
     this.subscribers = [];
     this.leavers = [];
     this.conditions = [];
+    this.failure = null;
     this.out = null;
   }
   /**
@@ -1014,7 +1015,7 @@ var Machine = class {
     const isAwaited = this.inFlight !== null && this.inFlight.sent && this.inFlight.answered === null;
     return this.arrived.size > 0 ? !isAwaited : this.fetched !== null && !this.followed;
   }
-  // Settles the promises whose conditions hold.
+  // Settles the promises whose conditions hold, and those that wait in vain.
   settle() {
     this.resolve(this.leavers.splice(0));
     if (this.state === "live" && this.followed && !this.requests.some(({ kind }) => kind !== "f"))
@@ -1022,6 +1023,19 @@ var Machine = class {
     const ready = this.conditions.filter(({ holds }) => holds(this));
     this.conditions = this.conditions.filter((one) => !ready.includes(one));
     this.resolve(ready.map(({ waiter }) => waiter));
+    if (this.failure !== null)
+      this.rejectWaiting(this.failure);
+  }
+  // Rejects what waits for an answer. Edits wait for the next connection.
+  rejectWaiting(error) {
+    const waiting = [...this.subscribers.splice(0), ...this.fetchers.splice(0)];
+    for (const { waiters } of this.requests.splice(0))
+      waiting.push(...waiters);
+    for (const { begins, waiter } of this.conditions)
+      if (begins)
+        waiting.push(waiter);
+    this.conditions = this.conditions.filter(({ begins }) => !begins);
+    this.reject(waiting, error);
   }
   // Answers ------------------------------------------------------------------------------------------------------
   receiveAnswer(message) {
@@ -1498,22 +1512,11 @@ var Machine = class {
     if (this.inFlight !== null)
       Object.assign(this.inFlight, { sent: false, answered: null });
   }
-  // The client connects no more: what waits for an answer is refused. Edits wait for the next `connect`.
-  failed(error) {
-    const waiting = [...this.subscribers.splice(0), ...this.fetchers.splice(0)];
-    for (const { waiters } of this.requests.splice(0))
-      waiting.push(...waiters);
-    for (const { begins, waiter } of this.conditions)
-      if (begins)
-        waiting.push(waiter);
-    this.conditions = this.conditions.filter(({ begins }) => !begins);
-    this.reject(waiting, error);
-  }
   closed(error) {
     this.disconnected();
     this.state = "closed";
     this.wanted = false;
-    this.failed(error);
+    this.failure = error;
     this.discard({ error });
   }
   // Calls --------------------------------------------------------------------------------------------------------
@@ -1568,7 +1571,8 @@ var Machine = class {
 var INPUTS = {
   connected: (machine) => machine.connected(),
   disconnected: (machine) => machine.disconnected(),
-  failed: (machine, { error }) => machine.failed(error),
+  failed: (machine, { error }) => machine.failure = error,
+  trying: (machine) => machine.failure = null,
   closed: (machine, { error }) => machine.closed(error),
   message: (machine, input) => machine.receive(input),
   compared: (machine, input) => machine.receiveCompared(input),
@@ -2108,8 +2112,9 @@ var Connection = class {
       forget: (doc) => this.forget(doc)
     };
   }
-  get isIdle() {
-    return this.documents.size === 0 && this.requests.size === 0;
+  observeIdle() {
+    if (this.documents.size === 0 && this.requests.size === 0)
+      this.becameIdle();
   }
   // Calls --------------------------------------------------------------------------------------------------------
   connect() {
@@ -2118,6 +2123,8 @@ var Connection = class {
     this.wanted = true;
     this.tries = 0;
     this.error = null;
+    for (const core of this.documents.values())
+      run(core, { type: "trying" });
     if (this.socket === null)
       this.open();
   }
@@ -2147,6 +2154,8 @@ var Connection = class {
       this.documents.set(key, core2);
       if (this.state === "connected")
         run(core2, { type: "connected" });
+      if (this.error !== null)
+        run(core2, { type: "failed", error: this.error });
     }
     const core = this.documents.get(key);
     keep(core);
@@ -2154,12 +2163,15 @@ var Connection = class {
   }
   forget({ collection, id }) {
     this.documents.delete(keyOf(collection, id));
-    if (this.isIdle)
-      this.becameIdle();
+    this.observeIdle();
   }
   snapshot(message) {
     if (this.state === "closed")
       return Promise.reject(new Refusal("ERR_CLOSED"));
+    if (this.error !== null) {
+      this.observeIdle();
+      return Promise.reject(this.error);
+    }
     return new Promise((resolve, reject) => {
       this.request(message, false, ({ snapshot, error }) => error ? reject(error) : resolve(snapshot));
     });
@@ -2181,8 +2193,7 @@ var Connection = class {
       return;
     }
     this.requests.delete(message.id);
-    if (this.isIdle)
-      this.becameIdle();
+    this.observeIdle();
     if (message.error)
       request.receive({ error: refusalOf(message) });
     else
@@ -2191,8 +2202,7 @@ var Connection = class {
   rejectRequests(error) {
     const requests = [...this.requests.values()];
     this.requests.clear();
-    if (this.isIdle)
-      this.becameIdle();
+    this.observeIdle();
     for (const { receive } of requests)
       receive({ error });
   }
@@ -2591,9 +2601,8 @@ function requested(cluster, id, request) {
   if (core.isClosed)
     return Promise.reject(new Refusal("ERR_CLOSED"));
   const connection = connectionFor(core, id);
-  const answer = request(connection.client);
   use(core, connection);
-  return answer;
+  return request(connection.client);
 }
 
 // src/ot/text.js

@@ -280,7 +280,6 @@ function requested(cluster, id, request) {
   const core = coreOf(cluster);
   if (core.isClosed) return Promise.reject(new Refusal('ERR_CLOSED'));
   const connection = connectionFor(core, id);
-  const answer = request(connection.client);
   use(core, connection);
-  return answer;
+  return request(connection.client);
 }

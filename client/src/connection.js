@@ -252,8 +252,8 @@ class Connection {
     };
   }
 
-  get isIdle() {
-    return this.documents.size === 0 && this.requests.size === 0;
+  observeIdle() {
+    if (this.documents.size === 0 && this.requests.size === 0) this.becameIdle();
   }
 
   // Calls --------------------------------------------------------------------------------------------------------
@@ -263,6 +263,7 @@ class Connection {
     this.wanted = true;
     this.tries = 0;
     this.error = null;
+    for (const core of this.documents.values()) run(core, { type: 'trying' });
     if (this.socket === null) this.open();
   }
 
@@ -289,6 +290,7 @@ class Connection {
       const core = coreFor(this.transport, collection, id);
       this.documents.set(key, core);
       if (this.state === 'connected') run(core, { type: 'connected' });
+      if (this.error !== null) run(core, { type: 'failed', error: this.error });
     }
     const core = this.documents.get(key);
     keep(core);
@@ -297,11 +299,15 @@ class Connection {
 
   forget({ collection, id }) {
     this.documents.delete(keyOf(collection, id));
-    if (this.isIdle) this.becameIdle();
+    this.observeIdle();
   }
 
   snapshot(message) {
     if (this.state === 'closed') return Promise.reject(new Refusal('ERR_CLOSED'));
+    if (this.error !== null) {
+      this.observeIdle();
+      return Promise.reject(this.error);
+    }
     return new Promise((resolve, reject) => {
       this.request(message, false, ({ snapshot, error }) => (error ? reject(error) : resolve(snapshot)));
     });
@@ -325,7 +331,7 @@ class Connection {
       return;
     }
     this.requests.delete(message.id);
-    if (this.isIdle) this.becameIdle();
+    this.observeIdle();
     if (message.error) request.receive({ error: refusalOf(message) });
     else request.receive({ snapshot: { version: message.v, data: dataOf(message) } });
   }
@@ -333,7 +339,7 @@ class Connection {
   rejectRequests(error) {
     const requests = [...this.requests.values()];
     this.requests.clear();
-    if (this.isIdle) this.becameIdle();
+    this.observeIdle();
     for (const { receive } of requests) receive({ error });
   }
 

@@ -79,6 +79,7 @@ export class Machine {
     this.subscribers = [];
     this.leavers = []; // waiters for the end of the subscription
     this.conditions = []; // { holds, begins, waiter }
+    this.failure = null; // why the client connects no more
     this.out = null;
   }
 
@@ -227,13 +228,23 @@ export class Machine {
     return this.arrived.size > 0 ? !isAwaited : this.fetched !== null && !this.followed;
   }
 
-  // Settles the promises whose conditions hold.
+  // Settles the promises whose conditions hold, and those that wait in vain.
   settle() {
     this.resolve(this.leavers.splice(0));
     if (this.state === 'live' && this.followed && !this.requests.some(({ kind }) => kind !== 'f')) this.resolve(this.subscribers.splice(0));
     const ready = this.conditions.filter(({ holds }) => holds(this));
     this.conditions = this.conditions.filter((one) => !ready.includes(one));
     this.resolve(ready.map(({ waiter }) => waiter));
+    if (this.failure !== null) this.rejectWaiting(this.failure);
+  }
+
+  // Rejects what waits for an answer. Edits wait for the next connection.
+  rejectWaiting(error) {
+    const waiting = [...this.subscribers.splice(0), ...this.fetchers.splice(0)];
+    for (const { waiters } of this.requests.splice(0)) waiting.push(...waiters);
+    for (const { begins, waiter } of this.conditions) if (begins) waiting.push(waiter);
+    this.conditions = this.conditions.filter(({ begins }) => !begins);
+    this.reject(waiting, error);
   }
 
   // Answers ------------------------------------------------------------------------------------------------------
@@ -698,20 +709,11 @@ export class Machine {
     if (this.inFlight !== null) Object.assign(this.inFlight, { sent: false, answered: null });
   }
 
-  // The client connects no more: what waits for an answer is refused. Edits wait for the next `connect`.
-  failed(error) {
-    const waiting = [...this.subscribers.splice(0), ...this.fetchers.splice(0)];
-    for (const { waiters } of this.requests.splice(0)) waiting.push(...waiters);
-    for (const { begins, waiter } of this.conditions) if (begins) waiting.push(waiter);
-    this.conditions = this.conditions.filter(({ begins }) => !begins);
-    this.reject(waiting, error);
-  }
-
   closed(error) {
     this.disconnected();
     this.state = 'closed';
     this.wanted = false;
-    this.failed(error);
+    this.failure = error;
     this.discard({ error });
   }
 
@@ -767,7 +769,8 @@ export class Machine {
 const INPUTS = {
   connected: (machine) => machine.connected(),
   disconnected: (machine) => machine.disconnected(),
-  failed: (machine, { error }) => machine.failed(error),
+  failed: (machine, { error }) => (machine.failure = error),
+  trying: (machine) => (machine.failure = null),
   closed: (machine, { error }) => machine.closed(error),
   message: (machine, input) => machine.receive(input),
   compared: (machine, input) => machine.receiveCompared(input),

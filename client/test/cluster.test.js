@@ -187,6 +187,26 @@ test('a bucket whose connection is lost changes no other', OPTIONS, async () => 
   assert.strictEqual(made.waiting, false);
 });
 
+test('a bucket that has failed: a snapshot fails at once, and after the idle delay the next one connects', OPTIONS, async () => {
+  const { cluster: made, clock, sockets } = cluster();
+  const first = made.snapshot('b', IDS[3]);
+  sockets.last().answer({ a: 'init', id: 's1', protocol: 2 });
+  await assert.rejects(first, { code: 'ERR_PROTOCOL' });
+  clock.advance(IDLE - 1);
+  await assert.rejects(made.snapshot('b', IDS[3]), { code: 'ERR_PROTOCOL' });
+  clock.advance(IDLE - 1);
+  assert.strictEqual(made.states.length, 1);
+  clock.advance(1);
+  assert.deepStrictEqual([made.states, sockets.opened.length], [[], 1]);
+  const next = made.snapshot('b', IDS[3]);
+  const socket = sockets.last();
+  assert.strictEqual(sockets.opened.length, 2);
+  socket.open();
+  const [{ a, id }] = socket.taken();
+  socket.answer({ a, id, v: 0, type: null });
+  assert.deepStrictEqual(await next, { version: 0, data: undefined });
+});
+
 test('a bucket that fails is named, and is tried again by `connect`', OPTIONS, () => {
   const { cluster: made, events, sockets } = cluster();
   IDS.forEach((id) => made.document('b', id));

@@ -286,6 +286,49 @@ test('a failed client: createIfAbsent fails, subscriptions stay wanted', OPTIONS
   assert.deepStrictEqual([made.state, doc.wanted], ['failed', true]);
 });
 
+test('a failed client: what needs an answer fails at once, until the next `connect`', OPTIONS, async () => {
+  const { client: made, doc, socket, sockets } = loaded('abc', { mostTries: 0 });
+  socket.close(1006);
+  assert.strictEqual(made.state, 'failed');
+  const later = made.document('b', '2');
+  const calls = [made.snapshot('b', '1'), made.snapshotAtTime('b', '1', 5)];
+  for (const one of [doc, later]) {
+    calls.push(one.fetch(), one.operations(0), one.snapshot(), one.snapshotAtTime(5), one.subscribe());
+  }
+  for (const call of calls) await assert.rejects(call, { code: 'ERR_UNREACHABLE' });
+  assert.deepStrictEqual([doc.wanted, later.wanted, later.state], [true, true, 'offline']);
+  made.connect();
+  const fetching = later.fetch();
+  const next = sockets.last();
+  next.open();
+  compared(next);
+  next.answer({ a: 's', ...ADDRESS });
+  assert.deepStrictEqual(next.taken(), [{ a: 's', ...ADDRESS, v: 3 }]);
+  next.answer({ a: 's', c: 'b', d: '2', data: { data: 'new', v: 1 } });
+  assert.strictEqual((await fetching).data, 'new');
+  assert.strictEqual(next.taken().length, 0);
+});
+
+test('a client that has failed by the protocol: the calls fail with that code', OPTIONS, async () => {
+  const { client: made, doc, socket } = loaded();
+  socket.onmessage({ data: 'nonsense' });
+  for (const call of [doc.fetch(), doc.subscribe(), doc.operations(), made.snapshot('b', '1')]) {
+    await assert.rejects(call, { code: 'ERR_PROTOCOL' });
+  }
+});
+
+test('a failed client: createIfAbsent fails if the create of another call waits', OPTIONS, async () => {
+  const { doc, socket } = started({ mostTries: 0 });
+  doc.fetch();
+  socket.answer({ a: 'f', ...ADDRESS, data: { type: null, v: 0 } });
+  socket.close(1006);
+  const edit = doc.create('x');
+  await assert.rejects(doc.createIfAbsent('y'), { code: 'ERR_UNREACHABLE' });
+  assert.strictEqual(doc.pending, 1);
+  doc.destroy({ discard: true });
+  await assert.rejects(edit, { code: 'ERR_CLOSED' });
+});
+
 test('close ends the client and its documents: what waits is refused', OPTIONS, async () => {
   const { client: made, clock, doc, events, socket, sockets } = loaded();
   const states = [];

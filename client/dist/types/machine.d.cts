@@ -52,6 +52,7 @@ export class Machine {
     subscribers: any[];
     leavers: any[];
     conditions: any[];
+    failure: any;
     out: {
         messages: any[];
         settled: any[];
@@ -93,6 +94,7 @@ export class Machine {
     catchUp(): void;
     isMissing(): boolean;
     settle(): void;
+    rejectWaiting(error: any): void;
     receiveAnswer(message: any): void;
     receiveSnapshot(request: any, snapshot: any): void;
     isVerified({ listed, from }: {
@@ -162,7 +164,6 @@ export class Machine {
     reportDropped(records: any, error: any): void;
     connected(): void;
     disconnected(): void;
-    failed(error: any): void;
     closed(error: any): void;
     resume(): void;
     fetch({ waiter }: {
