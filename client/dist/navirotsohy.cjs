@@ -378,6 +378,62 @@ function isInsidePair(text, offset) {
   return isHighHalf(text.charCodeAt(offset - 1)) && isLowHalf(text.charCodeAt(offset));
 }
 
+// src/ot/overlay.js
+var ABSENT = Symbol("absent");
+var MOST_CHANGES = 1e3;
+var Overlay = class {
+  constructor(base, changes) {
+    this.base = base;
+    this.changes = changes;
+  }
+};
+function overlayOf(object) {
+  return object instanceof Overlay ? object : new Overlay(object, /* @__PURE__ */ new Map());
+}
+function define(object, key, value) {
+  if (key !== "__proto__")
+    object[key] = value;
+  else
+    Object.defineProperty(object, key, { value, configurable: true, enumerable: true, writable: true });
+}
+function merged({ base, changes }) {
+  const whole = { ...base };
+  for (const [key, member] of changes) {
+    if (member === ABSENT)
+      delete whole[key];
+    else
+      define(whole, key, plain(member));
+  }
+  return whole;
+}
+function plain(value) {
+  if (!(value instanceof Overlay))
+    return value;
+  if (value.changes.size > 0)
+    Object.assign(value, { base: merged(value), changes: /* @__PURE__ */ new Map() });
+  return value.base;
+}
+function hasMember(object, key) {
+  if (!(object instanceof Overlay))
+    return has(object, key);
+  return object.changes.has(key) ? object.changes.get(key) !== ABSENT : has(object.base, key);
+}
+function memberOf(object, key) {
+  if (!(object instanceof Overlay))
+    return object[key];
+  return object.changes.has(key) ? object.changes.get(key) : object.base[key];
+}
+function withMember(object, key, member) {
+  const { base, changes } = overlayOf(object);
+  const changed = new Overlay(base, new Map(changes).set(key, member));
+  if (changed.changes.size > MOST_CHANGES)
+    plain(changed);
+  return changed;
+}
+function withoutMember(object, key) {
+  return hasMember(object, key) ? withMember(object, key, ABSENT) : object;
+}
+
 // src/ot/apply.js
 function checkOffset(text, offset) {
   if (typeof text !== "string")
@@ -401,9 +457,6 @@ function withItem(list, index, value) {
   const copy = list.slice();
   copy[index] = value;
   return copy;
-}
-function withMember(object, key, value) {
-  return { ...object, [key]: value };
 }
 function addNumber(number, { na }) {
   if (typeof number !== "number")
@@ -439,9 +492,7 @@ function setMember(object, { oi }, key) {
 }
 function removeMember(object, component, key) {
   checkObject(object);
-  const copy = { ...object };
-  delete copy[key];
-  return copy;
+  return withoutMember(object, key);
 }
 var EFFECTS = {
   na: addNumber,
@@ -460,11 +511,11 @@ function changeAt(value, path, depth, change, from = 0) {
   const step = path[from];
   if (typeof step === "number") {
     checkItem(value, step, value && value.length);
-    return withItem(value, step, changeAt(value[step], path, depth, change, from + 1));
+    return withItem(value, step, plain(changeAt(value[step], path, depth, change, from + 1)));
   }
-  if (!isObject(value) || !has(value, step))
+  if (!isObject(value) || !hasMember(value, step))
     notApplied(`there is no member ${spelled(step)}`);
-  return withMember(value, step, changeAt(value[step], path, depth, change, from + 1));
+  return withMember(value, step, changeAt(memberOf(value, step), path, depth, change, from + 1));
 }
 function applyComponent(data, component) {
   const shape = shapeOf(component);
@@ -481,19 +532,23 @@ function valueAt(data, path, depth) {
     const step = path[at];
     if (typeof step === "number" ? !Array.isArray(value) : !isObject(value))
       return void 0;
-    if (!has(value, step))
+    if (Array.isArray(value) ? !has(value, step) : !hasMember(value, step))
       return void 0;
-    value = value[step];
+    value = memberOf(value, step);
   }
   return value;
 }
-function apply(data, operation) {
+function overlaid(data, operation) {
   return operation.reduce(applyComponent, data);
+}
+function apply(data, operation) {
+  return plain(overlaid(data, operation));
 }
 
 // src/ot/invert.js
 function removable(value) {
-  return isShallow(value) ? value : null;
+  const removed = plain(value);
+  return isShallow(removed) ? removed : null;
 }
 function completeComponent(data, component, shape) {
   const depth = containerDepth(component, shape);
@@ -505,11 +560,12 @@ function completeComponent(data, component, shape) {
   if (!KEYED.has(shape) || !isObject(place))
     return component;
   const { p, oi } = component;
-  if (has(place, last))
-    return shape === "od" ? { p, od: removable(place[last]) } : { p, od: removable(place[last]), oi };
-  return shape === "od" ? null : { p, oi };
+  if (!hasMember(place, last))
+    return shape === "od" ? null : { p, oi };
+  const od = removable(memberOf(place, last));
+  return shape === "od" ? { p, od } : { p, od, oi };
 }
-function complete(data, operation) {
+function completeOverlaid(data, operation) {
   const completed = [];
   let present = data;
   for (const component of operation) {
@@ -520,6 +576,10 @@ function complete(data, operation) {
     }
   }
   return { operation: completed, data: present };
+}
+function complete(data, operation) {
+  const completed = completeOverlaid(data, operation);
+  return { operation: completed.operation, data: plain(completed.data) };
 }
 var INVERSES = {
   na: ({ p, na }) => ({ p, na: 0 - na }),
@@ -540,7 +600,7 @@ function invert(operation, before) {
     if (one !== null) {
       const next = applyComponent(present, one);
       const shape = shapeOf(one);
-      inverse.push(INVERSES[shape](one, shape === "na" ? void 0 : valueAt(present, one.p, one.p.length)));
+      inverse.push(INVERSES[shape](one, shape === "na" ? void 0 : plain(valueAt(present, one.p, one.p.length))));
       present = next;
     }
   }
@@ -558,7 +618,7 @@ function withRemovedAfter(component, other) {
   const member = has(component, "ld") ? "ld" : "od";
   const inside = { ...other, p: other.p.slice(component.p.length) };
   return orRefusal(
-    () => ({ ...component, [member]: applyComponent(component[member], inside) }),
+    () => ({ ...component, [member]: apply(component[member], [inside]) }),
     () => component
   );
 }
@@ -722,7 +782,7 @@ function applyContent(data, content) {
     return void 0;
   if (content.create)
     return data === void 0 ? content.create.data : refuse("ERR_DOC_ALREADY_CREATED");
-  return data === void 0 ? refuse("ERR_DOC_DOES_NOT_EXIST") : apply(data, content.op);
+  return data === void 0 ? refuse("ERR_DOC_DOES_NOT_EXIST") : overlaid(data, content.op);
 }
 function crossContents(own, stored) {
   if (stored.create)
@@ -739,7 +799,7 @@ function crossContents(own, stored) {
 function isComplete(data, { op }) {
   if (!op || data === void 0)
     return true;
-  const completed = complete(data, op).operation;
+  const completed = completeOverlaid(data, op).operation;
   return completed.length === op.length && completed.every((one, at) => shapeOf(one) === shapeOf(op[at]));
 }
 function lengthOf(operation) {
@@ -788,8 +848,8 @@ function compose(first, second) {
   const composed = first.slice();
   for (const component of second) {
     const last = composed.pop();
-    const merged = last === void 0 ? [component] : merge(last, component) || [last, component];
-    composed.push(...merged);
+    const merged2 = last === void 0 ? [component] : merge(last, component) || [last, component];
+    composed.push(...merged2);
   }
   return composed;
 }
@@ -913,6 +973,14 @@ var Machine = class {
   // Effects ------------------------------------------------------------------------------------------------------
   emit(name, detail) {
     this.out.events.push([name, detail]);
+  }
+  // Emits an event whose documents are made plain once they are read.
+  emitDocuments(name, detail, documents) {
+    const { before, data } = documents;
+    if (has(documents, "before"))
+      Object.defineProperty(detail, "before", { enumerable: true, get: () => plain(before) });
+    Object.defineProperty(detail, "data", { enumerable: true, get: () => plain(data) });
+    this.emit(name, detail);
   }
   resolve(waiters, value) {
     for (const { resolve } of waiters)
@@ -1096,7 +1164,7 @@ var Machine = class {
     this.isComparing = false;
     if (error && error.code !== NEWER)
       this.refuseDocument(error);
-    else if (error || !isSame(this.confirmed, snapshot.data))
+    else if (error || !isSame(plain(this.confirmed), snapshot.data))
       this.restart();
     else
       this.catchUp();
@@ -1222,8 +1290,9 @@ var Machine = class {
       return;
     }
     const before = this.confirmed;
+    const isSent = shown && isSame(content, own.content);
     try {
-      this.confirmed = applyContent(before, content);
+      this.confirmed = isSent && this.queue.length === 0 ? this.data : applyContent(before, content);
     } catch (error) {
       if (!(error instanceof Refusal))
         throw error;
@@ -1236,7 +1305,7 @@ var Machine = class {
       this.inFlight = null;
     if (!shown)
       this.showOther(entry, before);
-    else if (!isSame(content, own.content))
+    else if (!isSent)
       this.replaceData();
     this.emit("version", { version, source, seq });
     if (own === null)
@@ -1285,18 +1354,18 @@ var Machine = class {
     if (operation !== null && operation.length === 0)
       return;
     if (operation !== null)
-      this.emit("op", { operation, source, local, before, data });
+      this.emitDocuments("op", { operation, source, local }, { before, data });
     this.emitLife(content, source, before, local);
-    this.emit("change", { operation, source, local, before, data });
+    this.emitDocuments("change", { operation, source, local }, { before, data });
   }
   emitLife(content, source, before, local = false) {
     if (content.create)
-      this.emit("create", { source, local, data: this.data });
+      this.emitDocuments("create", { source, local }, { data: this.data });
     if (content.del && before !== void 0)
-      this.emit("remove", { source, local, data: before });
+      this.emitDocuments("remove", { source, local }, { data: before });
   }
   emitWhole(before) {
-    this.emit("change", { operation: null, source: null, local: false, before, data: this.data });
+    this.emitDocuments("change", { operation: null, source: null, local: false }, { before, data: this.data });
   }
   // Computes `data` anew. The first pending content that can't be applied is dropped with those made on it.
   replaceData() {
@@ -1321,7 +1390,7 @@ var Machine = class {
       return;
     const { version, data } = this.fetched;
     this.fetched = null;
-    if (version < this.version || isSame(this.confirmed, data))
+    if (version < this.version || isSame(plain(this.confirmed), data))
       return;
     this.confirmed = data;
     this.replaceData();
@@ -1331,7 +1400,7 @@ var Machine = class {
   // The server was restarted and has lost this document. Its present document is another one.
   restart() {
     const error = new Refusal("ERR_SERVER_RESTARTED");
-    const lost = { version: this.version, data: this.confirmed, contents: this.contents() };
+    const lost = { version: this.version, data: plain(this.confirmed), contents: this.contents() };
     const dropped = this.takePending();
     this.forgetData();
     this.reportDropped(dropped, error);
@@ -1399,7 +1468,7 @@ var Machine = class {
   completed(operation) {
     if (this.data === void 0)
       refuse("ERR_DOC_DOES_NOT_EXIST");
-    const { operation: whole, data } = complete(this.data, operation);
+    const { operation: whole, data } = completeOverlaid(this.data, operation);
     return { content: { op: withShortRemoved(whole, this.room) }, data };
   }
   checkSendable(content) {
@@ -1651,14 +1720,22 @@ var Doc = class extends Emitter {
    * @returns {T | undefined}
    */
   get data() {
-    return coreOf(this).machine.data;
+    return plain(coreOf(this).machine.data);
+  }
+  /**
+   * A value of `data`, for documents with large objects: `data` copies each object that has changed since it was read.
+   * @param {import('./ot/component.js').Path} path
+   * @returns {any} undefined if there is none
+   */
+  valueAt(path) {
+    return plain(valueAt(coreOf(this).machine.data, path, path.length));
   }
   /**
    * The server's document at `version`, without pending edits.
    * @returns {T | undefined}
    */
   get confirmed() {
-    return coreOf(this).machine.confirmed;
+    return plain(coreOf(this).machine.confirmed);
   }
   /**
    * The source of this client's edits.

@@ -143,6 +143,62 @@ function isInsidePair(text, offset) {
   return isHighHalf(text.charCodeAt(offset - 1)) && isLowHalf(text.charCodeAt(offset));
 }
 
+// src/ot/overlay.js
+var ABSENT = Symbol("absent");
+var MOST_CHANGES = 1e3;
+var Overlay = class {
+  constructor(base, changes) {
+    this.base = base;
+    this.changes = changes;
+  }
+};
+function overlayOf(object) {
+  return object instanceof Overlay ? object : new Overlay(object, /* @__PURE__ */ new Map());
+}
+function define(object, key, value) {
+  if (key !== "__proto__")
+    object[key] = value;
+  else
+    Object.defineProperty(object, key, { value, configurable: true, enumerable: true, writable: true });
+}
+function merged({ base, changes }) {
+  const whole = { ...base };
+  for (const [key, member] of changes) {
+    if (member === ABSENT)
+      delete whole[key];
+    else
+      define(whole, key, plain(member));
+  }
+  return whole;
+}
+function plain(value) {
+  if (!(value instanceof Overlay))
+    return value;
+  if (value.changes.size > 0)
+    Object.assign(value, { base: merged(value), changes: /* @__PURE__ */ new Map() });
+  return value.base;
+}
+function hasMember(object, key) {
+  if (!(object instanceof Overlay))
+    return has(object, key);
+  return object.changes.has(key) ? object.changes.get(key) !== ABSENT : has(object.base, key);
+}
+function memberOf(object, key) {
+  if (!(object instanceof Overlay))
+    return object[key];
+  return object.changes.has(key) ? object.changes.get(key) : object.base[key];
+}
+function withMember(object, key, member) {
+  const { base, changes } = overlayOf(object);
+  const changed = new Overlay(base, new Map(changes).set(key, member));
+  if (changed.changes.size > MOST_CHANGES)
+    plain(changed);
+  return changed;
+}
+function withoutMember(object, key) {
+  return hasMember(object, key) ? withMember(object, key, ABSENT) : object;
+}
+
 // src/ot/apply.js
 function checkOffset(text, offset) {
   if (typeof text !== "string")
@@ -166,9 +222,6 @@ function withItem(list, index, value) {
   const copy = list.slice();
   copy[index] = value;
   return copy;
-}
-function withMember(object, key, value) {
-  return { ...object, [key]: value };
 }
 function addNumber(number, { na }) {
   if (typeof number !== "number")
@@ -204,9 +257,7 @@ function setMember(object, { oi }, key) {
 }
 function removeMember(object, component, key) {
   checkObject(object);
-  const copy = { ...object };
-  delete copy[key];
-  return copy;
+  return withoutMember(object, key);
 }
 var EFFECTS = {
   na: addNumber,
@@ -225,11 +276,11 @@ function changeAt(value, path, depth, change, from = 0) {
   const step = path[from];
   if (typeof step === "number") {
     checkItem(value, step, value && value.length);
-    return withItem(value, step, changeAt(value[step], path, depth, change, from + 1));
+    return withItem(value, step, plain(changeAt(value[step], path, depth, change, from + 1)));
   }
-  if (!isObject(value) || !has(value, step))
+  if (!isObject(value) || !hasMember(value, step))
     notApplied(`there is no member ${spelled(step)}`);
-  return withMember(value, step, changeAt(value[step], path, depth, change, from + 1));
+  return withMember(value, step, changeAt(memberOf(value, step), path, depth, change, from + 1));
 }
 function applyComponent(data, component) {
   const shape = shapeOf(component);
@@ -246,14 +297,17 @@ function valueAt(data, path, depth) {
     const step = path[at];
     if (typeof step === "number" ? !Array.isArray(value) : !isObject(value))
       return void 0;
-    if (!has(value, step))
+    if (Array.isArray(value) ? !has(value, step) : !hasMember(value, step))
       return void 0;
-    value = value[step];
+    value = memberOf(value, step);
   }
   return value;
 }
-function apply(data, operation) {
+function overlaid(data, operation) {
   return operation.reduce(applyComponent, data);
+}
+function apply(data, operation) {
+  return plain(overlaid(data, operation));
 }
 
 // src/ot/transform.js
@@ -267,7 +321,7 @@ function withRemovedAfter(component, other) {
   const member = has(component, "ld") ? "ld" : "od";
   const inside = { ...other, p: other.p.slice(component.p.length) };
   return orRefusal(
-    () => ({ ...component, [member]: applyComponent(component[member], inside) }),
+    () => ({ ...component, [member]: apply(component[member], [inside]) }),
     () => component
   );
 }
@@ -464,15 +518,16 @@ function compose(first, second) {
   const composed = first.slice();
   for (const component of second) {
     const last = composed.pop();
-    const merged = last === void 0 ? [component] : merge(last, component) || [last, component];
-    composed.push(...merged);
+    const merged2 = last === void 0 ? [component] : merge(last, component) || [last, component];
+    composed.push(...merged2);
   }
   return composed;
 }
 
 // src/ot/invert.js
 function removable(value) {
-  return isShallow(value) ? value : null;
+  const removed = plain(value);
+  return isShallow(removed) ? removed : null;
 }
 function completeComponent(data, component, shape) {
   const depth = containerDepth(component, shape);
@@ -484,11 +539,12 @@ function completeComponent(data, component, shape) {
   if (!KEYED.has(shape) || !isObject(place))
     return component;
   const { p, oi } = component;
-  if (has(place, last))
-    return shape === "od" ? { p, od: removable(place[last]) } : { p, od: removable(place[last]), oi };
-  return shape === "od" ? null : { p, oi };
+  if (!hasMember(place, last))
+    return shape === "od" ? null : { p, oi };
+  const od = removable(memberOf(place, last));
+  return shape === "od" ? { p, od } : { p, od, oi };
 }
-function complete(data, operation) {
+function completeOverlaid(data, operation) {
   const completed = [];
   let present = data;
   for (const component of operation) {
@@ -499,6 +555,10 @@ function complete(data, operation) {
     }
   }
   return { operation: completed, data: present };
+}
+function complete(data, operation) {
+  const completed = completeOverlaid(data, operation);
+  return { operation: completed.operation, data: plain(completed.data) };
 }
 var INVERSES = {
   na: ({ p, na }) => ({ p, na: 0 - na }),
@@ -519,7 +579,7 @@ function invert(operation, before) {
     if (one !== null) {
       const next = applyComponent(present, one);
       const shape = shapeOf(one);
-      inverse.push(INVERSES[shape](one, shape === "na" ? void 0 : valueAt(present, one.p, one.p.length)));
+      inverse.push(INVERSES[shape](one, shape === "na" ? void 0 : plain(valueAt(present, one.p, one.p.length))));
       present = next;
     }
   }

@@ -4,9 +4,9 @@
  */
 import { refuse } from './errors.js';
 import { LONGEST_COMPOSED, MOST_COMPOSED } from './limits.js';
-import { apply } from './ot/apply.js';
+import { overlaid } from './ot/apply.js';
 import { shapeOf } from './ot/component.js';
-import { complete } from './ot/invert.js';
+import { completeOverlaid } from './ot/invert.js';
 import { cross } from './ot/transform.js';
 
 /** @typedef {import('./ot/component.js').Data} Data */
@@ -17,7 +17,7 @@ import { cross } from './ot/transform.js';
  */
 
 /**
- * Returns the document after the content; undefined is no document.
+ * Returns the document after the content, with overlays; undefined is no document.
  * @param {any} data
  * @param {Content} content
  * @returns {any}
@@ -25,7 +25,7 @@ import { cross } from './ot/transform.js';
 export function applyContent(data, content) {
   if (content.del) return undefined;
   if (content.create) return data === undefined ? content.create.data : refuse('ERR_DOC_ALREADY_CREATED');
-  return data === undefined ? refuse('ERR_DOC_DOES_NOT_EXIST') : apply(data, content.op);
+  return data === undefined ? refuse('ERR_DOC_DOES_NOT_EXIST') : overlaid(data, content.op);
 }
 
 /**
@@ -53,7 +53,7 @@ export function crossContents(own, stored) {
  */
 export function isComplete(data, { op }) {
   if (!op || data === undefined) return true;
-  const completed = complete(data, op).operation;
+  const completed = completeOverlaid(data, op).operation;
   return completed.length === op.length && completed.every((one, at) => shapeOf(one) === shapeOf(op[at]));
 }
 

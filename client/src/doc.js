@@ -6,7 +6,9 @@ import { Emitter, emitAll, report } from './emitter.js';
 import { Refusal, refuse } from './errors.js';
 import { TYPE } from './limits.js';
 import { Machine } from './machine.js';
+import { valueAt } from './ot/apply.js';
 import { readData, readOperation } from './ot/component.js';
+import { plain } from './ot/overlay.js';
 
 /** Milliseconds after which a pending edit is reported as waiting. */
 export const PATIENCE = 2000;
@@ -98,7 +100,16 @@ export class Doc extends Emitter {
    * @returns {T | undefined}
    */
   get data() {
-    return coreOf(this).machine.data;
+    return plain(coreOf(this).machine.data);
+  }
+
+  /**
+   * A value of `data`, for documents with large objects: `data` copies each object that has changed since it was read.
+   * @param {import('./ot/component.js').Path} path
+   * @returns {any} undefined if there is none
+   */
+  valueAt(path) {
+    return plain(valueAt(coreOf(this).machine.data, path, path.length));
   }
 
   /**
@@ -106,7 +117,7 @@ export class Doc extends Emitter {
    * @returns {T | undefined}
    */
   get confirmed() {
-    return coreOf(this).machine.confirmed;
+    return plain(coreOf(this).machine.confirmed);
   }
 
   /**

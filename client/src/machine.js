@@ -18,7 +18,7 @@
  * The confirmed document is the server's at `version`. One own content is in flight, the others wait in the queue, and
  * `data` is the confirmed document with these applied. A received operation is applied to the confirmed document. The
  * own ones are transformed against it as the server does, on the left side, so that the content in flight becomes what
- * the server stores.
+ * the server stores. Both documents have overlays: they are made plain once a caller reads them.
  *
  * Requests are answered in the order in which they were sent, so they are kept in one queue.
  * @module
@@ -28,7 +28,8 @@ import { Refusal, orRefusal, refusal, refuse } from './errors.js';
 import { LONGEST_MESSAGE, bytesOf, isSendable } from './limits.js';
 import { has, isSame } from './ot/component.js';
 import { compose } from './ot/compose.js';
-import { complete } from './ot/invert.js';
+import { completeOverlaid } from './ot/invert.js';
+import { plain } from './ot/overlay.js';
 import { firstPart, withShortRemoved } from './parts.js';
 
 /** @typedef {import('./content.js').Content} Content */
@@ -122,6 +123,14 @@ export class Machine {
 
   emit(name, detail) {
     this.out.events.push([name, detail]);
+  }
+
+  // Emits an event whose documents are made plain once they are read.
+  emitDocuments(name, detail, documents) {
+    const { before, data } = documents;
+    if (has(documents, 'before')) Object.defineProperty(detail, 'before', { enumerable: true, get: () => plain(before) });
+    Object.defineProperty(detail, 'data', { enumerable: true, get: () => plain(data) });
+    this.emit(name, detail);
   }
 
   resolve(waiters, value) {
@@ -303,7 +312,7 @@ export class Machine {
   receiveCompared({ snapshot, error }) {
     this.isComparing = false;
     if (error && error.code !== NEWER) this.refuseDocument(error);
-    else if (error || !isSame(this.confirmed, snapshot.data)) this.restart();
+    else if (error || !isSame(plain(this.confirmed), snapshot.data)) this.restart();
     else this.catchUp();
   }
 
@@ -423,8 +432,10 @@ export class Machine {
       return;
     }
     const before = this.confirmed;
+    const isSent = shown && isSame(content, own.content);
     try {
-      this.confirmed = applyContent(before, content);
+      // (if nothing else is pending, `data` is the confirmed document with this content)
+      this.confirmed = isSent && this.queue.length === 0 ? this.data : applyContent(before, content);
     } catch (error) {
       if (!(error instanceof Refusal)) throw error;
       this.heal(error);
@@ -434,7 +445,7 @@ export class Machine {
     this.last = { source, seq };
     if (own !== null) this.inFlight = null;
     if (!shown) this.showOther(entry, before);
-    else if (!isSame(content, own.content)) this.replaceData();
+    else if (!isSent) this.replaceData();
     this.emit('version', { version, source, seq });
     if (own === null) return;
     this.emit('stored', { version, source, seq });
@@ -478,18 +489,18 @@ export class Machine {
     this.data = data;
     const operation = content.op || null;
     if (operation !== null && operation.length === 0) return;
-    if (operation !== null) this.emit('op', { operation, source, local, before, data });
+    if (operation !== null) this.emitDocuments('op', { operation, source, local }, { before, data });
     this.emitLife(content, source, before, local);
-    this.emit('change', { operation, source, local, before, data });
+    this.emitDocuments('change', { operation, source, local }, { before, data });
   }
 
   emitLife(content, source, before, local = false) {
-    if (content.create) this.emit('create', { source, local, data: this.data });
-    if (content.del && before !== undefined) this.emit('remove', { source, local, data: before });
+    if (content.create) this.emitDocuments('create', { source, local }, { data: this.data });
+    if (content.del && before !== undefined) this.emitDocuments('remove', { source, local }, { data: before });
   }
 
   emitWhole(before) {
-    this.emit('change', { operation: null, source: null, local: false, before, data: this.data });
+    this.emitDocuments('change', { operation: null, source: null, local: false }, { before, data: this.data });
   }
 
   // Computes `data` anew. The first pending content that can't be applied is dropped with those made on it.
@@ -514,7 +525,7 @@ export class Machine {
     if (this.fetched === null || this.fetched.version > this.version) return;
     const { version, data } = this.fetched;
     this.fetched = null;
-    if (version < this.version || isSame(this.confirmed, data)) return;
+    if (version < this.version || isSame(plain(this.confirmed), data)) return;
     this.confirmed = data;
     this.replaceData();
     this.emit('healed', { version });
@@ -525,7 +536,7 @@ export class Machine {
   // The server was restarted and has lost this document. Its present document is another one.
   restart() {
     const error = new Refusal('ERR_SERVER_RESTARTED');
-    const lost = { version: this.version, data: this.confirmed, contents: this.contents() };
+    const lost = { version: this.version, data: plain(this.confirmed), contents: this.contents() };
     const dropped = this.takePending();
     this.forgetData();
     this.reportDropped(dropped, error);
@@ -598,7 +609,7 @@ export class Machine {
 
   completed(operation) {
     if (this.data === undefined) refuse('ERR_DOC_DOES_NOT_EXIST');
-    const { operation: whole, data } = complete(this.data, operation);
+    const { operation: whole, data } = completeOverlaid(this.data, operation);
     return { content: { op: withShortRemoved(whole, this.room) }, data };
   }
 

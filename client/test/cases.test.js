@@ -644,6 +644,62 @@ test('an edit that can\'t be applied is refused at once and changes nothing', OP
   await assert.rejects(all.doc.submit(insert(0, 'x')), { code: 'ERR_DOC_DOES_NOT_EXIST' });
 });
 
+test('an edit copies no object of many keys', OPTIONS, () => {
+  const keys = 100000;
+  const { doc, socket } = loaded({ o: Object.fromEntries(Array.from({ length: keys }, (_, at) => [`k${at}`, { t: '' }])) });
+  const began = process.cpuUsage();
+  for (let at = 0; at < 100; at += 1) {
+    doc.submit([{ p: ['o', 'k5', 't', at], si: 'x' }]);
+    socket.answer(acknowledged(3 + 2 * at, at + 1), stored(4 + 2 * at, [{ p: ['o', 'k6', 't', at], si: 'y' }]));
+    assert.strictEqual(doc.valueAt(['o', 'k5', 't']).length, at + 1);
+  }
+  const { user, system } = process.cpuUsage(began);
+  assert.ok(user + system < 3e6, `${(user + system) / 1000} ms of processor time`);
+  assert.deepStrictEqual([doc.data.o.k5, doc.data.o.k6], [{ t: 'x'.repeat(100) }, { t: 'y'.repeat(100) }]);
+  assert.deepStrictEqual([Object.keys(doc.data.o).length, doc.data.o.k7], [keys, { t: '' }]);
+});
+
+test('after an acknowledgement the confirmed document is the one that is shown', OPTIONS, () => {
+  const { doc, socket } = loaded({ o: { k: { t: 'a' } }, l: [{ t: 'b' }] });
+  doc.submit([{ p: ['o', 'k', 't', 1], si: 'x' }, { p: ['l', 0, 't', 1], si: 'y' }]);
+  const { data } = doc;
+  assert.notStrictEqual(doc.confirmed, data);
+  socket.answer(acknowledged(3, 1));
+  assert.strictEqual(doc.confirmed, data);
+  assert.strictEqual(doc.data, data);
+  holds(doc, 4, { o: { k: { t: 'ax' } }, l: [{ t: 'by' }] });
+});
+
+test('each event has the documents of its version, also if they are read later', OPTIONS, () => {
+  const { doc, socket } = loaded({ o: { a: { n: 1 }, b: 2 } });
+  const told = [];
+  for (const name of ['op', 'change']) doc.on(name, (detail) => told.push(detail));
+  doc.submit([{ p: ['o', 'a', 'n'], na: 1 }]);
+  doc.submit([{ p: ['o', 'b'], od: 2 }, { p: ['o', '__proto__'], oi: { c: 3 } }]);
+  socket.answer(acknowledged(3, 1), stored(4, [{ p: ['o', 'a'], od: null }]));
+  const versions = ['{"o":{"a":{"n":1},"b":2}}', '{"o":{"a":{"n":2},"b":2}}', '{"o":{"a":{"n":2},"__proto__":{"c":3}}}', '{"o":{"__proto__":{"c":3}}}'];
+  const texts = told.map(({ before, data }) => [JSON.stringify(before), JSON.stringify(data)]);
+  assert.deepStrictEqual(texts, [0, 0, 1, 1, 2, 2].map((at) => [versions[at], versions[at + 1]]));
+  assert.deepStrictEqual([doc.valueAt(['o', 'a']), doc.valueAt(['o', 'x', 'y']), doc.valueAt(['o', '__proto__'])], [undefined, undefined, { c: 3 }]);
+  assert.strictEqual(JSON.stringify(doc.confirmed), '{"o":{"b":2}}');
+  assert.strictEqual(told[5].data, doc.data);
+});
+
+test('an object with many changed members', OPTIONS, () => {
+  const { client, doc } = loaded({ o: { first: 0 } });
+  client.disconnect();
+  const expected = { first: 0 };
+  for (let at = 0; at < 2500; at += 1) {
+    const key = `k${(at * 7) % 1700}`;
+    if (at % 3 === 2) doc.submit([{ p: ['o', key], od: null }]);
+    else doc.submit([{ p: ['o', key], oi: at }]);
+    if (at % 3 === 2) delete expected[key];
+    else expected[key] = at;
+  }
+  assert.deepStrictEqual(doc.data, { o: expected });
+  assert.deepStrictEqual(doc.confirmed, { o: { first: 0 } });
+});
+
 test('the promise of an edit is fulfilled with the version at which it is stored', OPTIONS, async () => {
   const { doc, socket } = loaded();
   const edits = [insert(3, 'd'), insert(4, 'e'), insert(5, 'f')].map((operation) => doc.submit(operation));

@@ -17,6 +17,7 @@
 import fs from 'node:fs';
 import path from 'node:path';
 import { connectionOf } from '../../client/src/connection.js';
+import { plain } from '../../client/src/ot/overlay.js';
 import { flush } from '../../client/test/support/clock.js';
 import { randomEdit, startDocument } from '../../client/test/support/edits.js';
 import { Net } from '../../client/test/support/net.js';
@@ -81,7 +82,7 @@ class Traced {
 
   start() {
     const { machine } = this.doc._doc();
-    const create = { type: 'json0', data: machine.confirmed };
+    const create = { type: 'json0', data: this.doc.confirmed };
     this.add({ a: 'start', src: this.name, v: machine.version, seq: this.seq + 1, create });
   }
 
@@ -95,11 +96,11 @@ class Traced {
     const sent = inFlight && JSON.parse(inFlight.text);
     const pending = [...(inFlight ? [inFlight] : []), ...queue];
     return {
-      data: confirmed,
+      data: plain(confirmed),
       pending: pending.map(({ content }) => content.op),
       seq: connectionOf(this.client).number + 1,
       sent: sent && { op: sent.op, seq: sent.seq, v: sent.v },
-      shown: data,
+      shown: plain(data),
       v: version,
     };
   }

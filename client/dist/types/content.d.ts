@@ -5,7 +5,7 @@
  * @typedef {{op?: Operation, create?: {type: string, data: any}, del?: true}} Content
  */
 /**
- * Returns the document after the content; undefined is no document.
+ * Returns the document after the content, with overlays; undefined is no document.
  * @param {any} data
  * @param {Content} content
  * @returns {any}

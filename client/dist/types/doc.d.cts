@@ -78,6 +78,12 @@ export class Doc<T = any> extends Emitter<DocEvents<T>> {
      */
     get data(): T;
     /**
+     * A value of `data`, for documents with large objects: `data` copies each object that has changed since it was read.
+     * @param {import('./ot/component.cjs').Path} path
+     * @returns {any} undefined if there is none
+     */
+    valueAt(path: import('./ot/component.cjs').Path): any;
+    /**
      * The server's document at `version`, without pending edits.
      * @returns {T | undefined}
      */

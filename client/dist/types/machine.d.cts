@@ -78,6 +78,7 @@ export class Machine {
     /** Whether nothing is outstanding that could change the document. */
     get isSettled(): boolean;
     emit(name: any, detail: any): void;
+    emitDocuments(name: any, detail: any, documents: any): void;
     resolve(waiters: any, value: any): void;
     reject(waiters: any, error: any): void;
     send(message: any): void;

@@ -6,6 +6,7 @@ import { Refusal, spelled } from '../errors.js';
 import { LARGEST } from '../limits.js';
 import { containerDepth, has, isObject, notApplied, shapeOf } from './component.js';
 import { isInsidePair } from './halves.js';
+import { hasMember, memberOf, plain, withMember, withoutMember } from './overlay.js';
 
 /** @typedef {import('./component.js').Data} Data */
 /** @typedef {import('./component.js').Operation} Operation */
@@ -29,10 +30,6 @@ function withItem(list, index, value) {
   const copy = list.slice();
   copy[index] = value;
   return copy;
-}
-
-function withMember(object, key, value) {
-  return { ...object, [key]: value };
 }
 
 function addNumber(number, { na }) {
@@ -74,9 +71,7 @@ function setMember(object, { oi }, key) {
 
 function removeMember(object, component, key) {
   checkObject(object);
-  const copy = { ...object };
-  delete copy[key];
-  return copy;
+  return withoutMember(object, key);
 }
 
 const EFFECTS = {
@@ -91,18 +86,19 @@ const EFFECTS = {
   or: setMember,
 };
 
-// Returns the value with a change at the first `depth` steps of the path.
+// Returns the value with a change at the first `depth` steps of the path. Lists are copied, and have no overlays.
 function changeAt(value, path, depth, change, from = 0) {
   if (from === depth) return change(value);
   const step = path[from];
   if (typeof step === 'number') {
     checkItem(value, step, value && value.length);
-    return withItem(value, step, changeAt(value[step], path, depth, change, from + 1));
+    return withItem(value, step, plain(changeAt(value[step], path, depth, change, from + 1)));
   }
-  if (!isObject(value) || !has(value, step)) notApplied(`there is no member ${spelled(step)}`);
-  return withMember(value, step, changeAt(value[step], path, depth, change, from + 1));
+  if (!isObject(value) || !hasMember(value, step)) notApplied(`there is no member ${spelled(step)}`);
+  return withMember(value, step, changeAt(memberOf(value, step), path, depth, change, from + 1));
 }
 
+// Returns the value after the component, with overlays.
 export function applyComponent(data, component) {
   const shape = shapeOf(component);
   const depth = containerDepth(component, shape);
@@ -114,7 +110,7 @@ export function applyComponent(data, component) {
 }
 
 /**
- * The value at the first `depth` steps of a path, or undefined.
+ * The value at the first `depth` steps of a path, which may have overlays, or undefined.
  * @param {Data} data
  * @param {Array<string | number>} path
  * @param {number} depth
@@ -125,10 +121,20 @@ export function valueAt(data, path, depth) {
   for (let at = 0; at < depth; at += 1) {
     const step = path[at];
     if (typeof step === 'number' ? !Array.isArray(value) : !isObject(value)) return undefined;
-    if (!has(value, step)) return undefined;
-    value = value[step];
+    if (Array.isArray(value) ? !has(value, step) : !hasMember(value, step)) return undefined;
+    value = memberOf(value, step);
   }
   return value;
+}
+
+/**
+ * Applies the operation as `apply`, and returns the result with overlays.
+ * @param {Data} data
+ * @param {Operation} operation
+ * @returns {any}
+ */
+export function overlaid(data, operation) {
+  return operation.reduce(applyComponent, data);
 }
 
 /**
@@ -139,6 +145,5 @@ export function valueAt(data, path, depth) {
  * @throws {Refusal} if a component can't be applied
  */
 export function apply(data, operation) {
-  return operation.reduce(applyComponent, data);
+  return plain(overlaid(data, operation));
 }
-

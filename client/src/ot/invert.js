@@ -4,6 +4,7 @@
  */
 import { applyComponent, valueAt } from './apply.js';
 import { KEYED, containerDepth, has, isObject, isShallow, shapeOf } from './component.js';
+import { hasMember, memberOf, plain } from './overlay.js';
 
 /** @typedef {import('./component.js').Data} Data */
 /** @typedef {import('./component.js').Component} Component */
@@ -11,7 +12,8 @@ import { KEYED, containerDepth, has, isObject, isShallow, shapeOf } from './comp
 
 // The server refuses a removed value that is too deep, and doesn't compare it.
 function removable(value) {
-  return isShallow(value) ? value : null;
+  const removed = plain(value);
+  return isShallow(removed) ? removed : null;
 }
 
 // Returns the component with the value that it removes from the document, or null if it changes nothing.
@@ -24,8 +26,28 @@ function completeComponent(data, component, shape) {
   }
   if (!KEYED.has(shape) || !isObject(place)) return component;
   const { p, oi } = component;
-  if (has(place, last)) return shape === 'od' ? { p, od: removable(place[last]) } : { p, od: removable(place[last]), oi };
-  return shape === 'od' ? null : { p, oi };
+  if (!hasMember(place, last)) return shape === 'od' ? null : { p, oi };
+  const od = removable(memberOf(place, last));
+  return shape === 'od' ? { p, od } : { p, od, oi };
+}
+
+/**
+ * Completes an operation as `complete`, and returns the document with overlays.
+ * @param {Data} data
+ * @param {Operation} operation
+ * @returns {{operation: Operation, data: any}}
+ */
+export function completeOverlaid(data, operation) {
+  const completed = [];
+  let present = data;
+  for (const component of operation) {
+    const one = completeComponent(present, component, shapeOf(component));
+    if (one !== null) {
+      present = applyComponent(present, one);
+      completed.push(one);
+    }
+  }
+  return { operation: completed, data: present };
 }
 
 /**
@@ -37,16 +59,8 @@ function completeComponent(data, component, shape) {
  * @throws {Refusal} if a component can't be applied
  */
 export function complete(data, operation) {
-  const completed = [];
-  let present = data;
-  for (const component of operation) {
-    const one = completeComponent(present, component, shapeOf(component));
-    if (one !== null) {
-      present = applyComponent(present, one);
-      completed.push(one);
-    }
-  }
-  return { operation: completed, data: present };
+  const completed = completeOverlaid(data, operation);
+  return { operation: completed.operation, data: plain(completed.data) };
 }
 
 const INVERSES = {
@@ -76,7 +90,7 @@ export function invert(operation, before) {
     if (one !== null) {
       const next = applyComponent(present, one);
       const shape = shapeOf(one);
-      inverse.push(INVERSES[shape](one, shape === 'na' ? undefined : valueAt(present, one.p, one.p.length)));
+      inverse.push(INVERSES[shape](one, shape === 'na' ? undefined : plain(valueAt(present, one.p, one.p.length))));
       present = next;
     }
   }

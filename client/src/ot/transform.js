@@ -3,7 +3,7 @@
  * @module
  */
 import { orRefusal, spelled } from '../errors.js';
-import { applyComponent } from './apply.js';
+import { apply } from './apply.js';
 import {
   LEFT, REMOVING, RIGHT, containerDepth, has, notApplied, shapeOf, withLastStep, withStep,
 } from './component.js';
@@ -22,7 +22,7 @@ function withRemovedAfter(component, other) {
   const member = has(component, 'ld') ? 'ld' : 'od';
   const inside = { ...other, p: other.p.slice(component.p.length) };
   return orRefusal(
-    () => ({ ...component, [member]: applyComponent(component[member], inside) }),
+    () => ({ ...component, [member]: apply(component[member], [inside]) }),
     () => component,
   );
 }

@@ -1,4 +1,14 @@
 /**
+ * Completes an operation as `complete`, and returns the document with overlays.
+ * @param {Data} data
+ * @param {Operation} operation
+ * @returns {{operation: Operation, data: any}}
+ */
+export function completeOverlaid(data: Data, operation: import("./component.cjs").Operation): {
+    operation: import("./component.cjs").Operation;
+    data: any;
+};
+/**
  * Completes an operation by the document: `ld` and `od` become the values that are removed, `oi` of a key that is there
  * gets `od`, and an `od` of no key is left out. Two clients converge only with operations that are completed.
  * @param {Data} data
