@@ -2023,6 +2023,7 @@ var REASONS = {
   1013: "full"
 };
 var PROTOCOL = 1;
+var STABLE = 5e3;
 var NOTHING = { code: 1006, reason: "" };
 var PLATFORM = {
   now: () => Date.now(),
@@ -2170,6 +2171,7 @@ var Connection = class {
     this.isOpened = false;
     this.isAlive = false;
     this.timer = null;
+    this.connectedAt = Infinity;
     this.tries = 0;
     this.number = 0;
     this.requested = 0;
@@ -2327,8 +2329,10 @@ var Connection = class {
     socket.close();
   }
   lost(closing) {
+    const isStable = this.clock.now() - this.connectedAt >= STABLE;
     this.socket = null;
-    this.tries += 1;
+    this.connectedAt = Infinity;
+    this.tries = isStable ? 1 : this.tries + 1;
     this.setTimer(null);
     this.state = "disconnected";
     this.closing = closing;
@@ -2351,9 +2355,10 @@ var Connection = class {
       this.fail(new Refusal("ERR_UNREACHABLE", error.message));
     }
   }
+  // All clients lose a server that ends at the same time, so the first delay may be any, down to none.
   delay() {
     const grown = Math.min(this.longestDelay, this.retryDelay * 2 ** Math.min(this.tries - 1, 30));
-    return grown * (1 - this.random() / 2);
+    return grown * (1 - (this.tries === 1 ? this.random() : this.random() / 2));
   }
   // Nothing is tried before the next `connect`.
   fail(error) {
@@ -2417,7 +2422,7 @@ var Connection = class {
     }
   }
   connected() {
-    this.tries = 0;
+    this.connectedAt = this.clock.now();
     this.state = "connected";
     this.setTimer(() => this.checkAlive(), this.heartbeat);
     for (const { text } of this.requests.values())

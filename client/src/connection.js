@@ -39,10 +39,12 @@ import { isObject } from './ot/component.js';
  * @property {boolean} [connect] false: the client connects only when `connect` is called
  * @property {number} [connectTimeout] milliseconds until an attempt without a handshake is given up: 20000
  * @property {number} [heartbeat] milliseconds of silence after which a sign of life is requested: 20000
- * @property {number} [retryDelay] milliseconds before the first reconnect: 1000. The delay is doubled each time, and
- *   shortened by up to a half at random
+ * @property {number} [retryDelay] the longest delay before the first reconnect, in milliseconds: 1000. The delay is
+ *   doubled each time, and shortened at random: the first by up to all of it, the others by up to a half. A connection
+ *   that lasted for 5 seconds ends the growth
  * @property {number} [longestDelay] the longest delay: 30000
- * @property {number} [mostTries] after this many failures in a row the client ends, with the state 'failed'
+ * @property {number} [mostTries] after this many failures in a row the client ends, with the state 'failed'. A
+ *   connection that is lost within 5 seconds is a failure too
  * @property {Clock} [clock] the timers; those of the platform by default
  * @property {() => number} [random] from 0 to below 1, for the delays
  */
@@ -58,6 +60,9 @@ const REASONS = {
 
 // The version of the protocol. A server with another one isn't spoken to.
 const PROTOCOL = 1;
+
+// Milliseconds after which a connection counts as none of the failed attempts.
+const STABLE = 5000;
 
 const NOTHING = { code: 1006, reason: '' };
 
@@ -233,7 +238,8 @@ class Connection {
     this.isOpened = false; // the server has sent its opening message
     this.isAlive = false; // a message was received since the last request for a sign of life
     this.timer = null; // of the next attempt, of the present one, or of the next sign of life
-    this.tries = 0; // connections that failed or were lost since the last handshake
+    this.connectedAt = Infinity; // the time of the handshake
+    this.tries = 0; // connections that failed or were lost soon after their handshake, in a row
     this.number = 0; // of the last own edit
     this.requested = 0; // of the last requested snapshot
     this.requests = new Map(); // requested snapshots, by number: { text, isOwn, receive }
@@ -391,8 +397,10 @@ class Connection {
   }
 
   lost(closing) {
+    const isStable = this.clock.now() - this.connectedAt >= STABLE;
     this.socket = null;
-    this.tries += 1;
+    this.connectedAt = Infinity;
+    this.tries = isStable ? 1 : this.tries + 1;
     this.setTimer(null);
     this.state = 'disconnected';
     this.closing = closing;
@@ -412,9 +420,10 @@ class Connection {
     }
   }
 
+  // All clients lose a server that ends at the same time, so the first delay may be any, down to none.
   delay() {
     const grown = Math.min(this.longestDelay, this.retryDelay * 2 ** Math.min(this.tries - 1, 30));
-    return grown * (1 - this.random() / 2);
+    return grown * (1 - (this.tries === 1 ? this.random() : this.random() / 2));
   }
 
   // Nothing is tried before the next `connect`.
@@ -481,7 +490,7 @@ class Connection {
   }
 
   connected() {
-    this.tries = 0;
+    this.connectedAt = this.clock.now();
     this.state = 'connected';
     this.setTimer(() => this.checkAlive(), this.heartbeat);
     for (const { text } of this.requests.values()) this.send(text);

@@ -96,8 +96,8 @@ test('each delay is twice the one before, up to the longest, and after so many a
   assert.strictEqual(sockets.opened.length, 7);
 });
 
-test('a delay is shortened by up to a half at random, and a handshake ends the growth', OPTIONS, () => {
-  const { client: made, clock, sockets } = client({ random: () => 0.999 });
+test('a delay is shortened at random: the first one by up to all of it, the others by up to a half', OPTIONS, () => {
+  const { client: made, clock, sockets } = client({ random: () => 0.75 });
   const next = (delay) => {
     const { length } = sockets.opened;
     clock.advance(delay - 1);
@@ -106,12 +106,17 @@ test('a delay is shortened by up to a half at random, and a handshake ends the g
     assert.strictEqual(sockets.opened.length, length + 1);
   };
   sockets.last().close(1006);
-  next(501);
+  next(250);
   sockets.last().close(1006);
-  next(1001);
+  next(1250);
   sockets.last().open();
+  clock.advance(4999);
   sockets.last().close(1006);
-  next(501);
+  next(2500);
+  sockets.last().open();
+  clock.advance(5000);
+  sockets.last().close(1006);
+  next(250);
   assert.strictEqual(made.state, 'connecting');
   const far = client({ longestDelay: 5, retryDelay: 7, heartbeat: 1e9 });
   far.sockets.last().close(1006);
@@ -132,6 +137,29 @@ test('a delay is shortened by up to a half at random, and a handshake ends the g
   assert.strictEqual(plain.sockets.opened.length, 9);
   plain.clock.advance(1);
   assert.strictEqual(plain.sockets.opened.length, 10);
+});
+
+test('a server that ends each connection after the handshake is tried with growing delays', OPTIONS, () => {
+  const { client: made, clock, sockets } = client();
+  made.document('b', '1').subscribe().catch(() => {});
+  const opened = [];
+  for (let second = 0; second < 600; second += 1) {
+    if (made.state === 'connecting') {
+      opened.push(second);
+      sockets.last().open();
+      sockets.last().close(1011);
+    }
+    clock.advance(1000);
+  }
+  assert.deepStrictEqual(opened.slice(0, 7), [0, 1, 3, 7, 15, 31, 61]);
+  assert.strictEqual(opened.length, 24);
+  const few = client({ mostTries: 2 });
+  for (let tries = 0; tries < 3; tries += 1) {
+    few.sockets.last().open();
+    few.sockets.last().close(1011);
+    few.clock.advance(2000);
+  }
+  assert.deepStrictEqual([few.client.state, few.client.error.code], ['failed', 'ERR_UNREACHABLE']);
 });
 
 test('an attempt without a handshake is given up', OPTIONS, () => {

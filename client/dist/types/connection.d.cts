@@ -130,8 +130,9 @@ export type ClientOptions = {
      */
     heartbeat?: number;
     /**
-     * milliseconds before the first reconnect: 1000. The delay is doubled each time, and
-     * shortened by up to a half at random
+     * the longest delay before the first reconnect, in milliseconds: 1000. The delay is
+     * doubled each time, and shortened at random: the first by up to all of it, the others by up to a half. A connection
+     * that lasted for 5 seconds ends the growth
      */
     retryDelay?: number;
     /**
@@ -139,7 +140,8 @@ export type ClientOptions = {
      */
     longestDelay?: number;
     /**
-     * after this many failures in a row the client ends, with the state 'failed'
+     * after this many failures in a row the client ends, with the state 'failed'. A
+     * connection that is lost within 5 seconds is a failure too
      */
     mostTries?: number;
     /**

@@ -113,7 +113,8 @@ export function holds(doc, version, data) {
 /** Closes a connection and opens the next one. */
 export function reconnected({ socket, sockets, clock }, number) {
   socket.close(1006);
-  clock.advance(SOON);
+  // (the delay has grown if the connection was lost soon after its handshake)
+  for (let tries = 0; tries < 4 && sockets.last() === socket; tries += 1) clock.advance(SOON);
   const next = sockets.last();
   assert.notStrictEqual(next, socket);
   next.open(number);
