@@ -2,7 +2,7 @@
  * The connection to the server, and the documents over it.
  * @module
  */
-import { Emitter } from './emitter.js';
+import { Emitter, emitAll } from './emitter.js';
 import { Refusal } from './errors.js';
 import { close as closeDoc, coreFor, keep, run } from './doc.js';
 import { isName } from './limits.js';
@@ -276,16 +276,19 @@ class Connection {
   disconnect() {
     this.wanted = false;
     this.setTimer(null);
-    this.end('disconnected');
+    emitAll(this.client, this.end('disconnected', 'disconnected'));
   }
 
   close() {
     if (this.state === 'closed') return;
-    this.disconnect();
+    this.wanted = false;
+    this.setTimer(null);
+    const ended = this.end('disconnected', 'closed');
+    this.state = 'closed';
     for (const core of this.documents.values()) closeDoc(core);
     this.documents.clear();
     this.rejectRequests(new Refusal('ERR_CLOSED'));
-    this.setState('closed');
+    emitAll(this.client, [...ended, ['state', 'closed']]);
   }
 
   document(collection, id) {
@@ -381,35 +384,57 @@ class Connection {
     const socket = new this.WebSocket(address);
     this.socket = socket;
     this.isOpened = false;
-    this.setTimer(() => this.end('timeout'), this.connectTimeout);
+    this.setTimer(() => this.giveUp('timeout'), this.connectTimeout);
     socket.onmessage = (event) => socket === this.socket && this.read(event.data);
     socket.onerror = () => {};
     socket.onclose = (event) => socket === this.socket && this.lost(closingOf(event || NOTHING, this.isOpened));
     this.setState('connecting');
   }
 
-  // Ends the connection from here.
-  end(reason) {
+  // Gives up the connection. The next attempt follows.
+  giveUp(reason) {
     const { socket } = this;
-    if (socket === null) return;
     this.lost({ code: 1000, reason, text: '' });
     socket.close();
   }
 
+  /**
+   * Ends the connection without another attempt. Returns the events that report it.
+   * @returns {Array<[string, any]>}
+   */
+  end(reason, state) {
+    const { socket } = this;
+    if (socket === null) return [];
+    const events = this.drop({ code: 1000, reason, text: '' }, state);
+    socket.close();
+    return events;
+  }
+
   lost(closing) {
+    const events = this.drop(closing, 'disconnected');
+    if (this.wanted && this.tries > this.mostTries) {
+      this.fail(new Refusal('ERR_UNREACHABLE'), events);
+      return;
+    }
+    if (this.wanted && this.socket === null) this.setTimer(() => this.reopen(), this.delay());
+    emitAll(this.client, events);
+  }
+
+  /**
+   * The connection, or the attempt, has ended. Returns the events that report it, for the end of the change.
+   * @returns {Array<[string, any]>}
+   */
+  drop(closing, state) {
     const isStable = this.clock.now() - this.connectedAt >= STABLE;
     this.socket = null;
     this.connectedAt = Infinity;
     this.tries = isStable ? 1 : this.tries + 1;
     this.setTimer(null);
-    this.state = 'disconnected';
+    this.state = state;
     this.closing = closing;
     for (const [number, { isOwn }] of this.requests) if (isOwn) this.requests.delete(number);
-    if (this.wanted && this.tries <= this.mostTries) this.setTimer(() => this.reopen(), this.delay());
     for (const core of this.documents.values()) run(core, { type: 'disconnected' });
-    this.client.emit('close', closing);
-    this.client.emit('state', 'disconnected');
-    if (this.wanted && this.tries > this.mostTries) this.fail(new Refusal('ERR_UNREACHABLE'));
+    return [['close', closing], ['state', 'disconnected']];
   }
 
   reopen() {
@@ -426,16 +451,15 @@ class Connection {
     return grown * (1 - (this.tries === 1 ? this.random() : this.random() / 2));
   }
 
-  // Nothing is tried before the next `connect`.
-  fail(error) {
+  // Nothing is tried before the next `connect`, which a listener of a document may call meanwhile.
+  fail(error, ended = null) {
     this.wanted = false;
     this.error = error;
-    this.end('failed');
-    this.state = 'failed';
+    const events = ended || this.end('failed', 'failed');
+    if (this.socket === null) this.state = 'failed';
     this.rejectRequests(error);
-    for (const core of this.documents.values()) run(core, { type: 'failed', error });
-    this.client.emit('state', 'failed');
-    this.client.emit('error', error);
+    for (const core of this.documents.values()) run(core, { type: 'failed', error: this.error });
+    emitAll(this.client, [...events, ['state', 'failed'], ['error', error]]);
   }
 
   setState(state) {
@@ -446,7 +470,7 @@ class Connection {
   // A server that hangs sends no sign of life: the connection is then given up.
   checkAlive() {
     if (!this.isAlive) {
-      this.end('silent');
+      this.giveUp('silent');
       return;
     }
     this.isAlive = false;

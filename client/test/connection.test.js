@@ -389,6 +389,40 @@ test('close ends the client and its documents: what waits is refused', OPTIONS, 
   assert.deepStrictEqual([sockets.opened.length, socket.isClosed, clock.timers], [1, true, []]);
 });
 
+test('a listener that connects while the client is closed: the connection stays closed', OPTIONS, () => {
+  for (const event of ['state', 'close']) {
+    const { client: made, clock, sockets, states } = client();
+    const codes = [];
+    made.on(event, () => {
+      try {
+        made.connect();
+      } catch ({ code }) {
+        codes.push(code);
+      }
+    });
+    sockets.last().open();
+    made.close();
+    clock.advance(1000000);
+    assert.deepStrictEqual([made.state, states.slice(-1), sockets.opened.length], ['closed', ['closed'], 1]);
+    assert.strictEqual(sockets.last().isClosed, true);
+    assert.ok(codes.length > 0 && codes.every((code) => code === 'ERR_CLOSED'));
+    assert.deepStrictEqual(clock.timers, []);
+  }
+});
+
+test('a listener that connects while the client fails: it tries again', OPTIONS, () => {
+  for (const event of ['state', 'close', 'error']) {
+    const { client: made, sockets } = client();
+    sockets.last().open();
+    made.once(event, () => made.connect());
+    sockets.last().onmessage({ data: 'nonsense' });
+    assert.deepStrictEqual([made.state, made.error, sockets.opened.length], ['connecting', null, 2]);
+    assert.deepStrictEqual(sockets.opened.map(({ isClosed }) => isClosed), [true, false]);
+    sockets.last().open();
+    assert.strictEqual(made.state, 'connected');
+  }
+});
+
 test('an edit is waiting after two seconds, with a connection or without', OPTIONS, () => {
   for (const isConnected of [true, false]) {
     const { client: made, clock, doc, socket, sockets } = loaded();
