@@ -1175,6 +1175,8 @@ var Machine = class {
         return;
       if (error.code === "ERR_OUT_OF_MEMORY")
         this.out.retries.push({ type: "retry", seq: message.seq });
+      else if (error.code === NEWER && this.state !== "loading")
+        this.restart();
       else
         this.refused(error);
       return;
@@ -1189,7 +1191,8 @@ var Machine = class {
       this.reject(request.waiters, error);
     } else if (error.code === NEWER) {
       this.fetchers.push(...request.waiters);
-      this.restart();
+      if (this.state !== "loading")
+        this.restart();
     } else if (request.kind === "s") {
       this.refuseSubscription(request, error);
     } else {

@@ -320,6 +320,7 @@ export class Machine {
     if (message.a === 'op') {
       if (!this.isInFlight(message)) return;
       if (error.code === 'ERR_OUT_OF_MEMORY') this.out.retries.push({ type: 'retry', seq: message.seq });
+      else if (error.code === NEWER && this.state !== 'loading') this.restart();
       else this.refused(error);
       return;
     }
@@ -332,7 +333,7 @@ export class Machine {
       this.reject(request.waiters, error);
     } else if (error.code === NEWER) {
       this.fetchers.push(...request.waiters);
-      this.restart();
+      if (this.state !== 'loading') this.restart();
     } else if (request.kind === 's') {
       this.refuseSubscription(request, error);
     } else {

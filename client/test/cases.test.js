@@ -476,6 +476,49 @@ test('a restarted server: an operation that was received before the connection w
   holds(doc, 4, 'xabc');
 });
 
+test('an edit of a version that the server doesn\'t have: the document starts anew', OPTIONS, async () => {
+  const { doc, events, socket } = loaded();
+  const edits = [doc.submit(insert(3, 'd')), doc.submit(insert(4, 'e'))];
+  socket.taken();
+  socket.answer(refused('op', NEWER, { src: 'me', seq: 1 }));
+  for (const edit of edits) await assert.rejects(edit, { code: 'ERR_SERVER_RESTARTED' });
+  assert.deepStrictEqual(events[1], ['restarted', { version: 3, data: 'abc', contents: [{ op: insert(3, 'd') }, { op: insert(4, 'e') }] }]);
+  assert.deepStrictEqual(socket.taken(), [{ a: 's', ...ADDRESS, v: null }]);
+  assert.strictEqual(doc.version, null);
+  socket.answer({ a: 's', ...ADDRESS, data: { data: 'new', v: 2 } });
+  holds(doc, 2, 'new');
+  assert.deepStrictEqual(namesOf(events), ['refused', 'restarted', 'load']);
+});
+
+test('an edit that was dropped here is refused by its version: the document starts anew', OPTIONS, async () => {
+  const { doc, events, socket } = loaded();
+  const edit = doc.submit(insert(3, 'd'));
+  socket.answer(storedDelete(3));
+  socket.taken();
+  socket.answer(refused('op', NEWER, { src: 'me', seq: 1 }));
+  await assert.rejects(edit, { code: 'ERR_SERVER_RESTARTED' });
+  assert.deepStrictEqual(namesOf(events), ['refused', 'restarted']);
+  assert.deepStrictEqual(socket.taken(), [{ a: 's', ...ADDRESS, v: null }]);
+});
+
+test('an edit and a fetch of a version that the server doesn\'t have: the document starts anew once', OPTIONS, async () => {
+  for (const isFetchFirst of [true, false]) {
+    const { doc, events, socket } = loaded();
+    const edit = doc.submit(insert(3, 'd'));
+    const fetching = doc.fetch();
+    socket.taken();
+    const errors = [refused('f', NEWER), refused('op', NEWER, { src: 'me', seq: 1 })];
+    socket.answer(...(isFetchFirst ? errors : errors.reverse()));
+    await assert.rejects(edit, { code: 'ERR_SERVER_RESTARTED' });
+    assert.deepStrictEqual([namesOf(events), doc.state], [['refused', 'restarted'], 'loading']);
+    assert.deepStrictEqual(socket.taken(), [{ a: 's', ...ADDRESS, v: null }]);
+    socket.answer({ a: 's', ...ADDRESS, data: { data: 'new', v: 2 } });
+    for (const { a, v } of socket.taken()) socket.answer({ a, ...ADDRESS, v });
+    assert.strictEqual(await fetching, doc);
+    holds(doc, 2, 'new');
+  }
+});
+
 test('another client creates the document first', OPTIONS, () => {
   const { doc, events, socket } = absent();
   doc.createIfAbsent('mine');
