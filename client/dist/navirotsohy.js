@@ -160,6 +160,7 @@ var Navirotsohy = (() => {
     ERR_DOC_DOES_NOT_EXIST: "document does not exist",
     ERR_OT_OP_NOT_APPLIED: "operation can not be applied",
     ERR_CLOSED: "document is closed, or no longer subscribed to",
+    ERR_FORBIDDEN: "the server does not admit this client",
     ERR_NOT_LOADED: "document is not loaded: fetch it or subscribe to it first",
     ERR_PROTOCOL: "the other end is no server of documents",
     ERR_SERVER_RESTARTED: "the server was restarted and has lost the document",
@@ -2017,16 +2018,20 @@ var Navirotsohy = (() => {
   }
 
   // src/connection.js
+  var FORBIDDEN = 1008;
   var REASONS = {
     1001: "going away",
     1002: "protocol",
     1007: "protocol",
+    [FORBIDDEN]: "forbidden",
     1009: "too long",
     1011: "out of memory",
     1013: "full"
   };
   var PROTOCOL = 1;
   var STABLE = 5e3;
+  var LATE = 5e3;
+  var TEST = 5e3;
   var NOTHING = { code: 1006, reason: "" };
   var PLATFORM = {
     now: () => Date.now(),
@@ -2054,8 +2059,8 @@ var Navirotsohy = (() => {
   }
   var Client = class extends Emitter {
     /**
-     * @param {string | (() => string)} address as `ws://127.0.0.1:8080`; a function is called at each attempt, so that it
-     * may return a new token
+     * @param {Address} address as `ws://127.0.0.1:8080`; a function is called at each attempt, so that it may return a
+     * new token, or a promise of an address. If that is rejected, the client tries again
      * @param {ClientOptions} [options]
      */
     constructor(address, options = {}) {
@@ -2067,7 +2072,7 @@ var Navirotsohy = (() => {
     }
     /**
      * The server's address.
-     * @returns {string | (() => string)}
+     * @returns {Address}
      */
     get address() {
       return connectionOf(this).address;
@@ -2174,6 +2179,8 @@ var Navirotsohy = (() => {
       this.isOpened = false;
       this.isAlive = false;
       this.timer = null;
+      this.checkAt = 0;
+      this.becameOnline = () => this.wake();
       this.connectedAt = Infinity;
       this.tries = 0;
       this.number = 0;
@@ -2202,23 +2209,29 @@ var Navirotsohy = (() => {
     connect() {
       if (this.state === "closed")
         throw new Refusal("ERR_CLOSED");
-      this.wanted = true;
+      this.want(true);
       this.tries = 0;
       this.error = null;
       for (const core of this.documents.values())
         run(core, { type: "trying" });
-      if (this.socket === null)
+      if (this.socket !== null)
+        return;
+      try {
         this.open();
+      } catch (error) {
+        this.want(false);
+        throw error;
+      }
     }
     disconnect() {
-      this.wanted = false;
+      this.want(false);
       this.setTimer(null);
       emitAll(this.client, this.end("disconnected", "disconnected"));
     }
     close() {
       if (this.state === "closed")
         return;
-      this.wanted = false;
+      this.want(false);
       this.setTimer(null);
       const ended = this.end("disconnected", "closed");
       this.state = "closed";
@@ -2314,17 +2327,54 @@ var Navirotsohy = (() => {
       this.timer = action === null ? null : this.clock.setTimeout(started, delay);
     }
     // The connection -----------------------------------------------------------------------------------------------
+    // Whether there should be a connection. A browser reports that its network is there again.
+    want(wanted) {
+      const { addEventListener, removeEventListener } = globalThis;
+      if (wanted !== this.wanted && addEventListener) {
+        (wanted ? addEventListener : removeEventListener).call(globalThis, "online", this.becameOnline);
+      }
+      this.wanted = wanted;
+    }
+    // Tries at once, or tests the connection.
+    wake() {
+      if (this.state === "connected")
+        this.requestSign(TEST);
+      else if (this.socket === null)
+        this.reopen();
+    }
     open() {
       const address = typeof this.address === "function" ? this.address() : this.address;
+      this.isOpened = false;
+      if (typeof address === "string")
+        this.openSocket(address);
+      else
+        this.openLater(address);
+      this.setTimer(() => this.giveUp("timeout"), this.connectTimeout);
+      this.setState("connecting");
+    }
+    openSocket(address) {
       const socket = new this.WebSocket(address);
       this.socket = socket;
-      this.isOpened = false;
-      this.setTimer(() => this.giveUp("timeout"), this.connectTimeout);
       socket.onmessage = (event) => socket === this.socket && this.read(event.data);
       socket.onerror = () => {
       };
       socket.onclose = (event) => socket === this.socket && this.lost(closingOf(event || NOTHING, this.isOpened));
-      this.setState("connecting");
+    }
+    // Opens the socket once its address is known. Until then another object is in its place.
+    async openLater(promise) {
+      const awaited = { close: () => {
+      } };
+      this.socket = awaited;
+      let address = null;
+      try {
+        address = await promise;
+      } catch (error) {
+        if (this.socket === awaited)
+          this.lost({ ...NOTHING, reason: "no address", text: String(error && error.message) });
+        return;
+      }
+      if (this.socket === awaited)
+        this.orFail(() => this.openSocket(address));
     }
     // Gives up the connection. The next attempt follows.
     giveUp(reason) {
@@ -2346,8 +2396,9 @@ var Navirotsohy = (() => {
     }
     lost(closing) {
       const events = this.drop(closing, "disconnected");
-      if (this.wanted && this.tries > this.mostTries) {
-        this.fail(new Refusal("ERR_UNREACHABLE"), events);
+      const isForbidden = closing.code === FORBIDDEN;
+      if (this.wanted && (isForbidden || this.tries > this.mostTries)) {
+        this.fail(new Refusal(isForbidden ? "ERR_FORBIDDEN" : "ERR_UNREACHABLE"), events);
         return;
       }
       if (this.wanted && this.socket === null)
@@ -2374,8 +2425,11 @@ var Navirotsohy = (() => {
       return [["close", closing], ["state", "disconnected"]];
     }
     reopen() {
+      this.orFail(() => this.open());
+    }
+    orFail(action) {
       try {
-        this.open();
+        action();
       } catch (error) {
         this.fail(new Refusal("ERR_UNREACHABLE", error.message));
       }
@@ -2387,7 +2441,7 @@ var Navirotsohy = (() => {
     }
     // Nothing is tried before the next `connect`, which a listener of a document may call meanwhile.
     fail(error, ended = null) {
-      this.wanted = false;
+      this.want(false);
       this.error = error;
       const events = ended || this.end("failed", "failed");
       if (this.socket === null)
@@ -2401,15 +2455,23 @@ var Navirotsohy = (() => {
       this.state = state;
       this.client.emit("state", state);
     }
-    // A server that hangs sends no sign of life: the connection is then given up.
+    // A server that hangs sends no sign of life: the connection is then given up. If the machine slept, the server had no
+    // time for it.
     checkAlive() {
-      if (!this.isAlive) {
+      const hasSlept = this.clock.now() - this.checkAt > LATE;
+      if (this.isAlive || hasSlept)
+        this.requestSign(hasSlept ? TEST : this.heartbeat);
+      else
         this.giveUp("silent");
-        return;
-      }
+    }
+    requestSign(delay) {
       this.isAlive = false;
       this.send('{"a":"hs"}');
-      this.setTimer(() => this.checkAlive(), this.heartbeat);
+      this.awaitSign(delay);
+    }
+    awaitSign(delay) {
+      this.checkAt = this.clock.now() + delay;
+      this.setTimer(() => this.checkAlive(), delay);
     }
     // Receiving ----------------------------------------------------------------------------------------------------
     read(text) {
@@ -2449,7 +2511,7 @@ var Navirotsohy = (() => {
     connected() {
       this.connectedAt = this.clock.now();
       this.state = "connected";
-      this.setTimer(() => this.checkAlive(), this.heartbeat);
+      this.awaitSign(this.heartbeat);
       for (const { text } of this.requests.values())
         this.send(text);
       const { socket } = this;
@@ -2497,8 +2559,8 @@ var Navirotsohy = (() => {
   }
   var Cluster = class extends Emitter {
     /**
-     * @param {string | ((bucket: number) => string)} address of which bucket N has the address `address/b/N`; a function
-     * returns the whole address of a bucket, and is called at each attempt
+     * @param {string | ((bucket: number) => string | Promise<string>)} address of which bucket N has the address
+     * `address/b/N`; a function returns the whole address of a bucket, or a promise of it, and is called at each attempt
      * @param {number} buckets how many there are: the same number in all clients
      * @param {ClusterOptions} [options]
      */
@@ -2524,7 +2586,7 @@ var Navirotsohy = (() => {
     }
     /**
      * The base address.
-     * @returns {string | ((bucket: number) => string)}
+     * @returns {string | ((bucket: number) => string | Promise<string>)}
      */
     get address() {
       return coreOf2(this).address;

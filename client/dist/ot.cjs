@@ -40,6 +40,7 @@ var MESSAGES = {
   ERR_DOC_DOES_NOT_EXIST: "document does not exist",
   ERR_OT_OP_NOT_APPLIED: "operation can not be applied",
   ERR_CLOSED: "document is closed, or no longer subscribed to",
+  ERR_FORBIDDEN: "the server does not admit this client",
   ERR_NOT_LOADED: "document is not loaded: fetch it or subscribe to it first",
   ERR_PROTOCOL: "the other end is no server of documents",
   ERR_SERVER_RESTARTED: "the server was restarted and has lost the document",

@@ -53,8 +53,8 @@ export function bucketOf(id, buckets) {
  */
 export class Cluster extends Emitter {
   /**
-   * @param {string | ((bucket: number) => string)} address of which bucket N has the address `address/b/N`; a function
-   * returns the whole address of a bucket, and is called at each attempt
+   * @param {string | ((bucket: number) => string | Promise<string>)} address of which bucket N has the address
+   * `address/b/N`; a function returns the whole address of a bucket, or a promise of it, and is called at each attempt
    * @param {number} buckets how many there are: the same number in all clients
    * @param {ClusterOptions} [options]
    */
@@ -79,7 +79,7 @@ export class Cluster extends Emitter {
 
   /**
    * The base address.
-   * @returns {string | ((bucket: number) => string)}
+   * @returns {string | ((bucket: number) => string | Promise<string>)}
    */
   get address() {
     return coreOf(this).address;

@@ -9,14 +9,16 @@ import { isName } from './limits.js';
 import { dataOf } from './machine.js';
 import { isObject } from './ot/component.js';
 
+/** @typedef {string | (() => string | Promise<string>)} Address */
 /** @typedef {'connecting' | 'connected' | 'disconnected' | 'failed' | 'closed'} ClientState */
 /**
  * Why a connection ended: `full` (the server serves its limit of clients), `going away` (it shuts down, or the client
- * was silent), `refused` (the connection was never open), `too long` (a message), `out of memory`, `protocol`,
+ * was silent), `refused` (the connection was never open), `forbidden` (the client isn't allowed, and doesn't try
+ * again), `no address` (the promise of an address was rejected), `too long` (a message), `out of memory`, `protocol`,
  * `timeout` (no handshake in time), `silent` (no sign of life), `disconnected` (by `disconnect` or `close`), `failed`
  * (the server breaks the protocol), or `lost`.
- * @typedef {'full' | 'going away' | 'refused' | 'too long' | 'out of memory' | 'protocol' | 'timeout' | 'silent' |
- *   'disconnected' | 'failed' | 'lost'} CloseReason
+ * @typedef {'full' | 'going away' | 'refused' | 'forbidden' | 'no address' | 'too long' | 'out of memory' |
+ *   'protocol' | 'timeout' | 'silent' | 'disconnected' | 'failed' | 'lost'} CloseReason
  */
 /** @typedef {{code: number, reason: CloseReason, text: string}} Closing the WebSocket's code, and the server's text */
 /**
@@ -49,10 +51,13 @@ import { isObject } from './ot/component.js';
  * @property {() => number} [random] from 0 to below 1, for the delays
  */
 
+const FORBIDDEN = 1008; // the status "policy violation", which a proxy sends
+
 const REASONS = {
   1001: 'going away',
   1002: 'protocol',
   1007: 'protocol',
+  [FORBIDDEN]: 'forbidden',
   1009: 'too long',
   1011: 'out of memory',
   1013: 'full',
@@ -63,6 +68,10 @@ const PROTOCOL = 1;
 
 // Milliseconds after which a connection counts as none of the failed attempts.
 const STABLE = 5000;
+
+// A timer that is so many milliseconds late ran on a machine that slept, so its connection is tested: for so long.
+const LATE = 5000;
+const TEST = 5000;
 
 const NOTHING = { code: 1006, reason: '' };
 
@@ -103,8 +112,8 @@ export function completeOptions(options) {
  */
 export class Client extends Emitter {
   /**
-   * @param {string | (() => string)} address as `ws://127.0.0.1:8080`; a function is called at each attempt, so that it
-   * may return a new token
+   * @param {Address} address as `ws://127.0.0.1:8080`; a function is called at each attempt, so that it may return a
+   * new token, or a promise of an address. If that is rejected, the client tries again
    * @param {ClientOptions} [options]
    */
   constructor(address, options = {}) {
@@ -116,7 +125,7 @@ export class Client extends Emitter {
 
   /**
    * The server's address.
-   * @returns {string | (() => string)}
+   * @returns {Address}
    */
   get address() {
     return connectionOf(this).address;
@@ -238,6 +247,8 @@ class Connection {
     this.isOpened = false; // the server has sent its opening message
     this.isAlive = false; // a message was received since the last request for a sign of life
     this.timer = null; // of the next attempt, of the present one, or of the next sign of life
+    this.checkAt = 0; // the time of the next check for a sign of life
+    this.becameOnline = () => this.wake();
     this.connectedAt = Infinity; // the time of the handshake
     this.tries = 0; // connections that failed or were lost soon after their handshake, in a row
     this.number = 0; // of the last own edit
@@ -266,22 +277,28 @@ class Connection {
 
   connect() {
     if (this.state === 'closed') throw new Refusal('ERR_CLOSED');
-    this.wanted = true;
+    this.want(true);
     this.tries = 0;
     this.error = null;
     for (const core of this.documents.values()) run(core, { type: 'trying' });
-    if (this.socket === null) this.open();
+    if (this.socket !== null) return;
+    try {
+      this.open();
+    } catch (error) {
+      this.want(false);
+      throw error;
+    }
   }
 
   disconnect() {
-    this.wanted = false;
+    this.want(false);
     this.setTimer(null);
     emitAll(this.client, this.end('disconnected', 'disconnected'));
   }
 
   close() {
     if (this.state === 'closed') return;
-    this.wanted = false;
+    this.want(false);
     this.setTimer(null);
     const ended = this.end('disconnected', 'closed');
     this.state = 'closed';
@@ -379,16 +396,50 @@ class Connection {
 
   // The connection -----------------------------------------------------------------------------------------------
 
+  // Whether there should be a connection. A browser reports that its network is there again.
+  want(wanted) {
+    const { addEventListener, removeEventListener } = globalThis;
+    if (wanted !== this.wanted && addEventListener) {
+      (wanted ? addEventListener : removeEventListener).call(globalThis, 'online', this.becameOnline);
+    }
+    this.wanted = wanted;
+  }
+
+  // Tries at once, or tests the connection.
+  wake() {
+    if (this.state === 'connected') this.requestSign(TEST);
+    else if (this.socket === null) this.reopen();
+  }
+
   open() {
     const address = typeof this.address === 'function' ? this.address() : this.address;
+    this.isOpened = false;
+    if (typeof address === 'string') this.openSocket(address);
+    else this.openLater(address);
+    this.setTimer(() => this.giveUp('timeout'), this.connectTimeout);
+    this.setState('connecting');
+  }
+
+  openSocket(address) {
     const socket = new this.WebSocket(address);
     this.socket = socket;
-    this.isOpened = false;
-    this.setTimer(() => this.giveUp('timeout'), this.connectTimeout);
     socket.onmessage = (event) => socket === this.socket && this.read(event.data);
     socket.onerror = () => {};
     socket.onclose = (event) => socket === this.socket && this.lost(closingOf(event || NOTHING, this.isOpened));
-    this.setState('connecting');
+  }
+
+  // Opens the socket once its address is known. Until then another object is in its place.
+  async openLater(promise) {
+    const awaited = { close: () => {} };
+    this.socket = awaited;
+    let address = null;
+    try {
+      address = await promise;
+    } catch (error) {
+      if (this.socket === awaited) this.lost({ ...NOTHING, reason: 'no address', text: String(error && error.message) });
+      return;
+    }
+    if (this.socket === awaited) this.orFail(() => this.openSocket(address));
   }
 
   // Gives up the connection. The next attempt follows.
@@ -412,8 +463,9 @@ class Connection {
 
   lost(closing) {
     const events = this.drop(closing, 'disconnected');
-    if (this.wanted && this.tries > this.mostTries) {
-      this.fail(new Refusal('ERR_UNREACHABLE'), events);
+    const isForbidden = closing.code === FORBIDDEN;
+    if (this.wanted && (isForbidden || this.tries > this.mostTries)) {
+      this.fail(new Refusal(isForbidden ? 'ERR_FORBIDDEN' : 'ERR_UNREACHABLE'), events);
       return;
     }
     if (this.wanted && this.socket === null) this.setTimer(() => this.reopen(), this.delay());
@@ -438,8 +490,12 @@ class Connection {
   }
 
   reopen() {
+    this.orFail(() => this.open());
+  }
+
+  orFail(action) {
     try {
-      this.open();
+      action();
     } catch (error) {
       this.fail(new Refusal('ERR_UNREACHABLE', error.message));
     }
@@ -453,7 +509,7 @@ class Connection {
 
   // Nothing is tried before the next `connect`, which a listener of a document may call meanwhile.
   fail(error, ended = null) {
-    this.wanted = false;
+    this.want(false);
     this.error = error;
     const events = ended || this.end('failed', 'failed');
     if (this.socket === null) this.state = 'failed';
@@ -467,15 +523,23 @@ class Connection {
     this.client.emit('state', state);
   }
 
-  // A server that hangs sends no sign of life: the connection is then given up.
+  // A server that hangs sends no sign of life: the connection is then given up. If the machine slept, the server had no
+  // time for it.
   checkAlive() {
-    if (!this.isAlive) {
-      this.giveUp('silent');
-      return;
-    }
+    const hasSlept = this.clock.now() - this.checkAt > LATE;
+    if (this.isAlive || hasSlept) this.requestSign(hasSlept ? TEST : this.heartbeat);
+    else this.giveUp('silent');
+  }
+
+  requestSign(delay) {
     this.isAlive = false;
     this.send('{"a":"hs"}');
-    this.setTimer(() => this.checkAlive(), this.heartbeat);
+    this.awaitSign(delay);
+  }
+
+  awaitSign(delay) {
+    this.checkAt = this.clock.now() + delay;
+    this.setTimer(() => this.checkAlive(), delay);
   }
 
   // Receiving ----------------------------------------------------------------------------------------------------
@@ -516,7 +580,7 @@ class Connection {
   connected() {
     this.connectedAt = this.clock.now();
     this.state = 'connected';
-    this.setTimer(() => this.checkAlive(), this.heartbeat);
+    this.awaitSign(this.heartbeat);
     for (const { text } of this.requests.values()) this.send(text);
     // (a listener may disconnect, or ask for further documents, meanwhile)
     const { socket } = this;

@@ -8,7 +8,8 @@
  * @typedef {'ERR_MESSAGE_BADLY_FORMED' | 'ERR_DOC_TYPE_NOT_RECOGNIZED' | 'ERR_OT_OP_BADLY_FORMED' |
  *   'ERR_OP_VERSION_NEWER_THAN_CURRENT_SNAPSHOT' | 'ERR_DOC_WAS_DELETED' | 'ERR_DOC_ALREADY_CREATED' |
  *   'ERR_DOC_DOES_NOT_EXIST' | 'ERR_OT_OP_NOT_APPLIED' | 'ERR_OP_NOT_ALLOWED_IN_PROJECTION' | 'ERR_OUT_OF_MEMORY' |
- *   'ERR_LIMIT' | 'ERR_CLOSED' | 'ERR_NOT_LOADED' | 'ERR_PROTOCOL' | 'ERR_SERVER_RESTARTED' | 'ERR_UNREACHABLE'} Code
+ *   'ERR_LIMIT' | 'ERR_CLOSED' | 'ERR_FORBIDDEN' | 'ERR_NOT_LOADED' | 'ERR_PROTOCOL' | 'ERR_SERVER_RESTARTED' |
+ *   'ERR_UNREACHABLE'} Code
  */
 
 /** @type {Partial<Record<Code, string>>} */
@@ -20,6 +21,7 @@ const MESSAGES = {
   ERR_DOC_DOES_NOT_EXIST: 'document does not exist',
   ERR_OT_OP_NOT_APPLIED: 'operation can not be applied',
   ERR_CLOSED: 'document is closed, or no longer subscribed to',
+  ERR_FORBIDDEN: 'the server does not admit this client',
   ERR_NOT_LOADED: 'document is not loaded: fetch it or subscribe to it first',
   ERR_PROTOCOL: 'the other end is no server of documents',
   ERR_SERVER_RESTARTED: 'the server was restarted and has lost the document',

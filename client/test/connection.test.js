@@ -50,6 +50,122 @@ test('an address may be a function, which is called at each attempt', OPTIONS, (
   made.close();
 });
 
+test('an address may be a promise: it is awaited at each attempt', OPTIONS, async () => {
+  const { WebSocket, opened } = scripted();
+  const clock = new ManualClock();
+  const answers = [];
+  const address = () => new Promise((resolve, reject) => answers.push({ resolve, reject }));
+  const made = new Client(address, { WebSocket, clock, random: () => 0, source: 'me' });
+  const closings = [];
+  made.on('close', (closing) => closings.push(closing));
+  assert.deepStrictEqual([made.state, opened.length], ['connecting', 0]);
+  made.connect();
+  answers[0].resolve('ws://test?token=1');
+  await flush();
+  assert.deepStrictEqual([answers.length, opened.map((socket) => socket.address)], [1, ['ws://test?token=1']]);
+  opened[0].open();
+  assert.strictEqual(made.state, 'connected');
+  opened[0].close(1006);
+  clock.advance(SOON);
+  answers[1].reject(new Error('no token'));
+  await flush();
+  assert.deepStrictEqual([made.state, made.closing], ['disconnected', { code: 1006, reason: 'no address', text: 'no token' }]);
+  clock.advance(2 * SOON);
+  made.disconnect();
+  answers[2].resolve('ws://late');
+  await flush();
+  assert.deepStrictEqual([made.state, opened.length, closings.length], ['disconnected', 1, 3]);
+  made.connect();
+  clock.advance(20000);
+  assert.deepStrictEqual([made.state, made.closing.reason], ['disconnected', 'timeout']);
+  answers[3].resolve('ws://later');
+  await flush();
+  assert.strictEqual(opened.length, 1);
+  made.close();
+});
+
+test('an awaited address that can\'t be opened fails the client', OPTIONS, async () => {
+  const clock = new ManualClock();
+  const wrong = class {
+    constructor(address) {
+      throw new SyntaxError(`no ${address}`);
+    }
+  };
+  const made = new Client(async () => 'address', { WebSocket: wrong, clock });
+  await flush();
+  assert.deepStrictEqual([made.state, made.error.code, made.error.message], ['failed', 'ERR_UNREACHABLE', 'no address']);
+});
+
+test('a client that isn\'t allowed (1008) doesn\'t try again', OPTIONS, async () => {
+  for (const isOpen of [true, false]) {
+    const { client: made, clock, sockets, states } = client();
+    const snapshot = made.snapshot('b', '1');
+    if (isOpen) sockets.last().open();
+    sockets.last().close(1008, 'no such user');
+    clock.advance(1000000);
+    assert.deepStrictEqual([made.state, made.error.code, sockets.opened.length], ['failed', 'ERR_FORBIDDEN', 1]);
+    assert.deepStrictEqual(made.closing, { code: 1008, reason: 'forbidden', text: 'no such user' });
+    assert.deepStrictEqual(states.slice(-2), ['disconnected', 'failed']);
+    await assert.rejects(snapshot, { code: 'ERR_FORBIDDEN' });
+    made.connect();
+    assert.strictEqual(sockets.opened.length, 2);
+  }
+});
+
+test('the network is there again: a client tries at once, and tests its connection', OPTIONS, () => {
+  const listeners = new Set();
+  globalThis.addEventListener = (name, listener) => name === 'online' && listeners.add(listener);
+  globalThis.removeEventListener = (name, listener) => listeners.delete(listener);
+  const online = () => listeners.forEach((listener) => listener());
+  try {
+    const { client: made, clock, closings, sockets } = client({ heartbeat: 20000 });
+    assert.strictEqual(listeners.size, 1);
+    online();
+    assert.strictEqual(sockets.opened.length, 1);
+    sockets.last().close(1006);
+    online();
+    assert.deepStrictEqual([made.state, sockets.opened.length], ['connecting', 2]);
+    clock.advance(1000);
+    assert.strictEqual(sockets.opened.length, 2);
+    const socket = sockets.last();
+    socket.open();
+    online();
+    assert.deepStrictEqual(socket.sent.slice(-1), [{ a: 'hs' }]);
+    clock.advance(4999);
+    assert.strictEqual(made.state, 'connected');
+    clock.advance(1);
+    assert.deepStrictEqual([made.state, closings.slice(-1)], ['disconnected', [[1000, 'silent']]]);
+    made.disconnect();
+    assert.strictEqual(listeners.size, 0);
+    made.connect();
+    assert.strictEqual(listeners.size, 1);
+    made.close();
+    assert.strictEqual(listeners.size, 0);
+    assert.throws(() => new Client(() => assert.fail('no address'), { WebSocket: class {}, clock }), /no address/);
+    assert.strictEqual(listeners.size, 0);
+  } finally {
+    delete globalThis.addEventListener;
+    delete globalThis.removeEventListener;
+  }
+});
+
+test('after a sleep the connection is tested for five seconds', OPTIONS, () => {
+  for (const isThere of [true, false]) {
+    const { client: made, clock, closings, sockets } = client();
+    const socket = sockets.last();
+    socket.open();
+    clock.advance(20000);
+    assert.strictEqual(socket.sent.length, 2);
+    clock.time += 3600000; // the machine sleeps, and the answer to the last request is lost
+    clock.advance(1);
+    assert.deepStrictEqual([made.state, socket.sent.length], ['connected', 3]);
+    if (isThere) socket.answer({ a: 'hs', id: 'me' });
+    clock.advance(5000);
+    assert.deepStrictEqual([made.state, closings], isThere ? ['connected', []] : ['disconnected', [[1000, 'silent']]]);
+    if (isThere) assert.strictEqual(socket.sent.length, 4);
+  }
+});
+
 test('an address that can\'t be opened: the first call throws, a later attempt fails the client', OPTIONS, () => {
   const clock = new ManualClock();
   let isWrong = true;

@@ -13,17 +13,17 @@ export function bucketOf(id: string, buckets: number): number;
  */
 export class Cluster extends Emitter<ClusterEvents> {
     /**
-     * @param {string | ((bucket: number) => string)} address of which bucket N has the address `address/b/N`; a function
-     * returns the whole address of a bucket, and is called at each attempt
+     * @param {string | ((bucket: number) => string | Promise<string>)} address of which bucket N has the address
+     * `address/b/N`; a function returns the whole address of a bucket, or a promise of it, and is called at each attempt
      * @param {number} buckets how many there are: the same number in all clients
      * @param {ClusterOptions} [options]
      */
-    constructor(address: string | ((bucket: number) => string), buckets: number, options?: ClusterOptions);
+    constructor(address: string | ((bucket: number) => string | Promise<string>), buckets: number, options?: ClusterOptions);
     /**
      * The base address.
-     * @returns {string | ((bucket: number) => string)}
+     * @returns {string | ((bucket: number) => string | Promise<string>)}
      */
-    get address(): string | ((bucket: number) => string);
+    get address(): string | ((bucket: number) => string | Promise<string>);
     /** @returns {number} */
     get buckets(): number;
     /**

@@ -10,16 +10,16 @@ export const PLATFORM: Clock;
  */
 export class Client extends Emitter<ClientEvents> {
     /**
-     * @param {string | (() => string)} address as `ws://127.0.0.1:8080`; a function is called at each attempt, so that it
-     * may return a new token
+     * @param {Address} address as `ws://127.0.0.1:8080`; a function is called at each attempt, so that it may return a
+     * new token, or a promise of an address. If that is rejected, the client tries again
      * @param {ClientOptions} [options]
      */
-    constructor(address: string | (() => string), options?: ClientOptions);
+    constructor(address: Address, options?: ClientOptions);
     /**
      * The server's address.
-     * @returns {string | (() => string)}
+     * @returns {Address}
      */
-    get address(): string | (() => string);
+    get address(): Address;
     /** @returns {string} */
     get source(): string;
     /** @returns {ClientState} */
@@ -72,14 +72,16 @@ export class Client extends Emitter<ClientEvents> {
     /** @returns {Promise<void>} is fulfilled when nothing is pending in any document */
     whenNothingPending(): Promise<void>;
 }
+export type Address = string | (() => string | Promise<string>);
 export type ClientState = 'connecting' | 'connected' | 'disconnected' | 'failed' | 'closed';
 /**
  * Why a connection ended: `full` (the server serves its limit of clients), `going away` (it shuts down, or the client
- * was silent), `refused` (the connection was never open), `too long` (a message), `out of memory`, `protocol`,
+ * was silent), `refused` (the connection was never open), `forbidden` (the client isn't allowed, and doesn't try
+ * again), `no address` (the promise of an address was rejected), `too long` (a message), `out of memory`, `protocol`,
  * `timeout` (no handshake in time), `silent` (no sign of life), `disconnected` (by `disconnect` or `close`), `failed`
  * (the server breaks the protocol), or `lost`.
  */
-export type CloseReason = 'full' | 'going away' | 'refused' | 'too long' | 'out of memory' | 'protocol' | 'timeout' | 'silent' | 'disconnected' | 'failed' | 'lost';
+export type CloseReason = 'full' | 'going away' | 'refused' | 'forbidden' | 'no address' | 'too long' | 'out of memory' | 'protocol' | 'timeout' | 'silent' | 'disconnected' | 'failed' | 'lost';
 /**
  * the WebSocket's code, and the server's text
  */
