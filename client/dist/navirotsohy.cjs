@@ -357,6 +357,14 @@ function isShallow(value, room = DEEPEST) {
     return true;
   return room > 0 && Object.keys(value).every((key) => isShallow(value[key], room - 1));
 }
+function frozen(value) {
+  if (value === null || typeof value !== "object" || Object.isFrozen(value))
+    return value;
+  Object.freeze(value);
+  for (const key of Object.keys(value))
+    frozen(value[key]);
+  return value;
+}
 function isSame(data, other) {
   if (data === other)
     return true;
@@ -783,7 +791,11 @@ function applyContent(data, content) {
     return void 0;
   if (content.create)
     return data === void 0 ? content.create.data : refuse("ERR_DOC_ALREADY_CREATED");
-  return data === void 0 ? refuse("ERR_DOC_DOES_NOT_EXIST") : overlaid(data, content.op);
+  return data === void 0 ? refuse("ERR_DOC_DOES_NOT_EXIST") : overlaid(
+    data,
+    /** @type {Operation} */
+    content.op
+  );
 }
 function crossContents(own, stored) {
   if (stored.create)
@@ -794,7 +806,12 @@ function crossContents(own, stored) {
     return refuse("ERR_DOC_WAS_DELETED");
   if (own.create)
     return refuse("ERR_DOC_ALREADY_CREATED");
-  const crossed = cross(own.op, stored.op);
+  const crossed = cross(
+    /** @type {Operation} */
+    own.op,
+    /** @type {Operation} */
+    stored.op
+  );
   return { own: { op: crossed.left }, stored: { op: crossed.right } };
 }
 function isComplete(data, { op }) {
@@ -912,12 +929,16 @@ function withShortRemoved(operation, room) {
 var NEWER = "ERR_OP_VERSION_NEWER_THAN_CURRENT_SNAPSHOT";
 var BEGINNING = /* @__PURE__ */ new Set(["loading", "verifying", "catching up"]);
 var Machine = class {
-  /** @param {{collection: string, id: string, source: string, nextNumber: () => number, now: () => number}} settings */
-  constructor({ collection, id, source, nextNumber, now }) {
+  /**
+   * @param {{collection: string, id: string, source: string, nextNumber: () => number, now: () => number,
+   *   freeze?: boolean}} settings
+   */
+  constructor({ collection, id, source, nextNumber, now, freeze = false }) {
     this.address = { c: collection, d: id };
     this.source = source;
     this.nextNumber = nextNumber;
     this.now = now;
+    this.freeze = freeze;
     this.room = LONGEST_MESSAGE - bytesOf(this.textOf({ op: [] }, Number.MAX_SAFE_INTEGER, Number.MAX_SAFE_INTEGER));
     this.state = "offline";
     this.version = null;
@@ -939,7 +960,7 @@ var Machine = class {
     this.leavers = [];
     this.conditions = [];
     this.failure = null;
-    this.out = null;
+    this.out = nothing();
   }
   /**
    * @param {{type: string, [member: string]: any}} input
@@ -947,7 +968,7 @@ var Machine = class {
    * @throws {Refusal} for an edit that is refused here; nothing is changed then
    */
   transition(input) {
-    this.out = { messages: [], settled: [], events: [], retries: [], comparison: null };
+    this.out = nothing();
     INPUTS[input.type](this, input);
     this.reconcile();
     this.settle();
@@ -975,12 +996,16 @@ var Machine = class {
   emit(name, detail) {
     this.out.events.push([name, detail]);
   }
+  /** Returns a document, or a value of one, as a caller receives it. */
+  readable(data) {
+    return this.freeze ? frozen(plain(data)) : plain(data);
+  }
   // Emits an event whose documents are made plain once they are read.
   emitDocuments(name, detail, documents) {
     const { before, data } = documents;
     if (has(documents, "before"))
-      Object.defineProperty(detail, "before", { enumerable: true, get: () => plain(before) });
-    Object.defineProperty(detail, "data", { enumerable: true, get: () => plain(data) });
+      Object.defineProperty(detail, "before", { enumerable: true, get: () => this.readable(before) });
+    Object.defineProperty(detail, "data", { enumerable: true, get: () => this.readable(data) });
     this.emit(name, detail);
   }
   resolve(waiters, value) {
@@ -1150,7 +1175,8 @@ var Machine = class {
   }
   isVerified({ listed, from }) {
     const entry = listed.find(({ version }) => version === from);
-    return entry !== void 0 && entry.source === this.last.source && entry.seq === this.last.seq;
+    const { source, seq } = this.last || {};
+    return entry !== void 0 && entry.source === source && entry.seq === seq;
   }
   // The operations from a version on have been received.
   receiveEnd(request) {
@@ -1245,14 +1271,15 @@ var Machine = class {
   // duplicate may be received before operations of smaller versions, so it is kept.
   receiveOperation(message) {
     const content = contentOf(message);
-    const isOwn = this.isInFlight(message);
+    const own = this.isInFlight(message) ? this.inFlight : null;
+    const isOwn = own !== null;
     const entry = { version: message.v, source: message.src, seq: message.seq, content };
     if (content && this.requests.length > 0)
       this.requests[0].listed.push(entry);
-    if (isOwn)
-      this.inFlight.answered = message.v;
-    if (isOwn && this.inFlight.content === null && content === null) {
-      this.storedAfterAll(message.v);
+    if (own !== null)
+      own.answered = message.v;
+    if (own !== null && own.content === null && content === null) {
+      this.storedAfterAll(own, message.v);
     } else if ((content !== null || isOwn) && (this.version === null || message.v >= this.version)) {
       if (content !== null || !this.arrived.has(message.v))
         this.arrived.set(message.v, entry);
@@ -1261,8 +1288,7 @@ var Machine = class {
     }
   }
   // The client expected a refusal, so the content itself is requested like that of others.
-  storedAfterAll(version) {
-    const { waiters, dropped } = this.inFlight;
+  storedAfterAll({ waiters, dropped }, version) {
     this.inFlight = null;
     this.resolve(waiters, { version });
     this.reportDropped(dropped, new Refusal("ERR_OT_OP_NOT_APPLIED"));
@@ -1288,7 +1314,7 @@ var Machine = class {
     const content = entry.content || own && own.content;
     if (content === null) {
       if (own !== null)
-        this.storedAfterAll(version);
+        this.storedAfterAll(own, version);
       else
         this.ask(version, "catch up");
       return;
@@ -1404,7 +1430,7 @@ var Machine = class {
   // The server was restarted and has lost this document. Its present document is another one.
   restart() {
     const error = new Refusal("ERR_SERVER_RESTARTED");
-    const lost = { version: this.version, data: plain(this.confirmed), contents: this.contents() };
+    const lost = { version: this.version, data: this.readable(this.confirmed), contents: this.contents() };
     const dropped = this.takePending();
     this.forgetData();
     this.reportDropped(dropped, error);
@@ -1446,8 +1472,10 @@ var Machine = class {
     return this.takePending().slice(1);
   }
   // Own contents -------------------------------------------------------------------------------------------------
+  /** @returns {any[]} */
   pendingRecords() {
-    return this.inFlight && this.inFlight.content !== null ? [this.inFlight, ...this.queue] : this.queue;
+    const { inFlight, queue } = this;
+    return inFlight && inFlight.content !== null ? [inFlight, ...queue] : queue;
   }
   contents() {
     return this.pendingRecords().map(({ content }) => content);
@@ -1484,18 +1512,19 @@ var Machine = class {
   }
   enqueue(content, waiter) {
     const last = this.queue[this.queue.length - 1];
+    const waiting = last && !this.preventCompose ? last.content.op : void 0;
     const length = content.op ? lengthOf(content.op) : 0;
-    const areEdits = last !== void 0 && last.content.op !== void 0 && content.op !== void 0;
-    const isJoined = areEdits && !this.preventCompose;
-    if (!isJoined || !isComposable(last.content.op.length + content.op.length, last.length + length)) {
+    if (!waiting || !content.op || !isComposable(waiting.length + content.op.length, last.length + length)) {
       this.queue.push({ content, length, waiters: [waiter], since: this.now() });
       return;
     }
-    last.content = { op: compose(last.content.op, content.op) };
-    last.length += length;
+    const joined = compose(waiting, content.op);
+    Object.assign(last, { content: { op: joined }, length: last.length + length });
     last.waiters.push(waiter);
-    if (last.content.op.length === 0)
-      this.resolve(this.queue.pop().waiters, { version: null });
+    if (joined.length > 0)
+      return;
+    this.queue.pop();
+    this.resolve(last.waiters, { version: null });
   }
   textOf(content, version, seq) {
     return JSON.stringify({ a: "op", ...this.address, v: version, src: this.source, seq, ...content });
@@ -1506,9 +1535,11 @@ var Machine = class {
       if (!this.inFlight.sent)
         this.out.messages.push(this.inFlight.text);
       this.inFlight.sent = true;
-    } else if (this.queue.length > 0) {
-      this.sendFirst(this.queue.shift());
+      return;
     }
+    const first = this.queue.shift();
+    if (first)
+      this.sendFirst(first);
   }
   // An operation that grew beyond the server's limits is sent in parts. Its promise waits for the last one.
   sendFirst({ content, waiters, since }) {
@@ -1536,15 +1567,19 @@ var Machine = class {
   // Drops pending contents from one on. The answer to the one in flight is outstanding, so it stays without a content.
   // Returns those that are dropped now.
   dropFrom(at) {
+    const record = this.inFlight;
     const sent = this.pendingRecords().length - this.queue.length;
-    if (at >= sent)
+    if (record === null || at >= sent)
       return this.queue.splice(at - sent);
-    Object.assign(this.inFlight, { lost: this.inFlight.content, content: null, dropped: this.queue.splice(0) });
+    Object.assign(record, { lost: record.content, content: null, dropped: this.queue.splice(0) });
     return [];
   }
   // The operation in flight isn't stored: it is dropped, with those made on it. The document is fetched and compared.
   refused(error) {
-    const record = this.inFlight;
+    const record = (
+      /** @type {InFlight} */
+      this.inFlight
+    );
     const isKnown = record.content === null;
     const dropped = [record, ...isKnown ? record.dropped : this.queue.splice(0)];
     this.inFlight = null;
@@ -1641,6 +1676,9 @@ var Machine = class {
       this.receiveAnswer(message);
   }
 };
+function nothing() {
+  return { messages: [], settled: [], events: [], retries: [], comparison: null };
+}
 var INPUTS = {
   connected: (machine) => machine.connected(),
   disconnected: (machine) => machine.disconnected(),
@@ -1692,8 +1730,8 @@ var Doc = class extends Emitter {
    */
   constructor(transport, collection, id) {
     super();
-    const { source, nextNumber, clock } = transport;
-    const machine = new Machine({ collection, id, source, nextNumber, now: clock.now });
+    const { source, nextNumber, clock, freeze } = transport;
+    const machine = new Machine({ collection, id, source, nextNumber, now: clock.now, freeze });
     const core = { doc: this, transport, machine, collection, id, waiting: false, timer: null, leaving: null };
     Object.defineProperty(this, "_doc", { value: () => core });
   }
@@ -1721,10 +1759,11 @@ var Doc = class extends Emitter {
   }
   /**
    * The document with own edits: never change it. It is undefined if none exists.
-   * @returns {T | undefined}
+   * @returns {Frozen<T> | undefined}
    */
   get data() {
-    return plain(coreOf(this).machine.data);
+    const { machine } = coreOf(this);
+    return machine.readable(machine.data);
   }
   /**
    * A value of `data`, for documents with large objects: `data` copies each object that has changed since it was read.
@@ -1732,14 +1771,16 @@ var Doc = class extends Emitter {
    * @returns {any} undefined if there is none
    */
   valueAt(path) {
-    return plain(valueAt(coreOf(this).machine.data, path, path.length));
+    const { machine } = coreOf(this);
+    return machine.readable(valueAt(machine.data, path, path.length));
   }
   /**
    * The server's document at `version`, without pending edits.
-   * @returns {T | undefined}
+   * @returns {Frozen<T> | undefined}
    */
   get confirmed() {
-    return plain(coreOf(this).machine.confirmed);
+    const { machine } = coreOf(this);
+    return machine.readable(machine.confirmed);
   }
   /**
    * The source of this client's edits.
@@ -2048,6 +2089,13 @@ function randomSource() {
 function refusalOf(message) {
   return new Refusal(message.error.code, message.error.message);
 }
+function isDevelopment() {
+  try {
+    return process.env.NODE_ENV === "development";
+  } catch {
+    return false;
+  }
+}
 function completeOptions(options) {
   const { source = randomSource(), WebSocket = globalThis["WebSocket"] } = options;
   if (typeof WebSocket !== "function") {
@@ -2163,7 +2211,7 @@ var Connection = class {
     this.source = options.source;
     this.WebSocket = options.WebSocket;
     const { connectTimeout = 2e4, heartbeat = 2e4, retryDelay = 1e3, longestDelay = 3e4 } = options;
-    const { mostTries = Infinity, clock = PLATFORM, random = Math.random } = options;
+    const { mostTries = Infinity, clock = PLATFORM, random = Math.random, freeze = isDevelopment() } = options;
     this.connectTimeout = connectTimeout;
     this.heartbeat = heartbeat;
     this.retryDelay = retryDelay;
@@ -2192,6 +2240,7 @@ var Connection = class {
     this.transport = {
       source: this.source,
       clock: this.clock,
+      freeze,
       nextNumber: () => this.number += 1,
       send: (text) => this.send(text),
       later: (action) => this.later(action),
@@ -2439,7 +2488,11 @@ var Connection = class {
     const grown = Math.min(this.longestDelay, this.retryDelay * 2 ** Math.min(this.tries - 1, 30));
     return grown * (1 - (this.tries === 1 ? this.random() : this.random() / 2));
   }
-  // Nothing is tried before the next `connect`, which a listener of a document may call meanwhile.
+  /**
+   * Nothing is tried before the next `connect`, which a listener of a document may call meanwhile.
+   * @param {Refusal} error
+   * @param {Array<[string, any]> | null} [ended]
+   */
   fail(error, ended = null) {
     this.want(false);
     this.error = error;

@@ -47,6 +47,8 @@ import { isObject } from './ot/component.js';
  * @property {number} [longestDelay] the longest delay: 30000
  * @property {number} [mostTries] after this many failures in a row the client ends, with the state 'failed'. A
  *   connection that is lost within 5 seconds is a failure too
+ * @property {boolean} [freeze] freezes the data of documents, so that a write to them throws: by default if
+ *   `process.env.NODE_ENV` is 'development'
  * @property {Clock} [clock] the timers; those of the platform by default
  * @property {() => number} [random] from 0 to below 1, for the delays
  */
@@ -94,6 +96,16 @@ function randomSource() {
 
 function refusalOf(message) {
   return new Refusal(message.error.code, message.error.message);
+}
+
+// Bundlers replace the whole expression, and a page has no `process`.
+function isDevelopment() {
+  try {
+    // @ts-ignore
+    return process.env.NODE_ENV === 'development'; // eslint-disable-line no-undef
+  } catch {
+    return false;
+  }
 }
 
 /** Returns the options with a source and a class, or throws. @internal */
@@ -231,7 +243,7 @@ class Connection {
     this.source = options.source;
     this.WebSocket = options.WebSocket;
     const { connectTimeout = 20000, heartbeat = 20000, retryDelay = 1000, longestDelay = 30000 } = options;
-    const { mostTries = Infinity, clock = PLATFORM, random = Math.random } = options;
+    const { mostTries = Infinity, clock = PLATFORM, random = Math.random, freeze = isDevelopment() } = options;
     this.connectTimeout = connectTimeout;
     this.heartbeat = heartbeat;
     this.retryDelay = retryDelay;
@@ -259,6 +271,7 @@ class Connection {
     this.transport = {
       source: this.source,
       clock: this.clock,
+      freeze,
       nextNumber: () => (this.number += 1),
       send: (text) => this.send(text),
       later: (action) => this.later(action),
@@ -507,7 +520,11 @@ class Connection {
     return grown * (1 - (this.tries === 1 ? this.random() : this.random() / 2));
   }
 
-  // Nothing is tried before the next `connect`, which a listener of a document may call meanwhile.
+  /**
+   * Nothing is tried before the next `connect`, which a listener of a document may call meanwhile.
+   * @param {Refusal} error
+   * @param {Array<[string, any]> | null} [ended]
+   */
   fail(error, ended = null) {
     this.want(false);
     this.error = error;

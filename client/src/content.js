@@ -25,7 +25,7 @@ import { cross } from './ot/transform.js';
 export function applyContent(data, content) {
   if (content.del) return undefined;
   if (content.create) return data === undefined ? content.create.data : refuse('ERR_DOC_ALREADY_CREATED');
-  return data === undefined ? refuse('ERR_DOC_DOES_NOT_EXIST') : overlaid(data, content.op);
+  return data === undefined ? refuse('ERR_DOC_DOES_NOT_EXIST') : overlaid(data, /** @type {Operation} */ (content.op));
 }
 
 /**
@@ -40,7 +40,7 @@ export function crossContents(own, stored) {
   if (own.del) return { own, stored: null };
   if (stored.del) return refuse('ERR_DOC_WAS_DELETED');
   if (own.create) return refuse('ERR_DOC_ALREADY_CREATED');
-  const crossed = cross(own.op, stored.op);
+  const crossed = cross(/** @type {Operation} */ (own.op), /** @type {Operation} */ (stored.op));
   return { own: { op: crossed.left }, stored: { op: crossed.right } };
 }
 

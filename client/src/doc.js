@@ -8,12 +8,15 @@ import { TYPE } from './limits.js';
 import { Machine } from './machine.js';
 import { valueAt } from './ot/apply.js';
 import { readData, readOperation } from './ot/component.js';
-import { plain } from './ot/overlay.js';
 
 /** Milliseconds after which a pending edit is reported as waiting. */
 export const PATIENCE = 2000;
 
 /** @typedef {import('./ot/component.js').Operation} Operation */
+/**
+ * @template T
+ * @typedef {import('./ot/component.js').Frozen<T>} Frozen
+ */
 /** @typedef {import('./content.js').Content} Content */
 /** @typedef {import('./machine.js').State} DocState */
 /**
@@ -32,16 +35,19 @@ export const PATIENCE = 2000;
  * @template [T=any]
  * @typedef {object} DocEvents
  * @property {{version: number}} load the whole document was received, at first and after a restart of the server
- * @property {{operation: Operation, source: any, local: boolean, before: T, data: T}} op an operation changed `data`
- * @property {{source: any, local: boolean, data: T}} create the document was created
- * @property {{source: any, local: boolean, data: T}} remove the document was deleted; `data` is the document before it
- * @property {{operation: Operation | null, source: any, local: boolean, before: T | undefined, data: T | undefined}}
- *   change `data` has changed: by an operation or, if that is null, as a whole
+ * @property {{operation: Operation, source: any, local: boolean, before: Frozen<T>, data: Frozen<T>}} op an operation
+ *   changed `data`
+ * @property {{source: any, local: boolean, data: Frozen<T>}} create the document was created
+ * @property {{source: any, local: boolean, data: Frozen<T>}} remove the document was deleted; `data` is the document
+ *   before it
+ * @property {{operation: Operation | null, source: any, local: boolean, before: Frozen<T> | undefined,
+ *   data: Frozen<T> | undefined}} change `data` has changed: by an operation or, if that is null, as a whole
  * @property {Seen} version a stored operation of any client was received
  * @property {Seen} stored an own operation was received
  * @property {{error: Refusal, contents: Content[]}} refused own edits were dropped
- * @property {{version: number, data: T | undefined, contents: Content[]}} restarted the server was restarted and has
- *   lost the document: `data` is the document as it was stored, `contents` are the pending edits, which are dropped
+ * @property {{version: number, data: Frozen<T> | undefined, contents: Content[]}} restarted the server was restarted
+ *   and has lost the document: `data` is the document as it was stored, `contents` are the pending edits, which are
+ *   dropped
  * @property {{version: number}} healed the document here differed from the server's and was replaced
  * @property {{waiting: boolean}} waiting an edit waits for more than two seconds, or no edit does
  * @property {Refusal} error the document can't be subscribed to or fetched
@@ -62,8 +68,8 @@ export class Doc extends Emitter {
    */
   constructor(transport, collection, id) {
     super();
-    const { source, nextNumber, clock } = transport;
-    const machine = new Machine({ collection, id, source, nextNumber, now: clock.now });
+    const { source, nextNumber, clock, freeze } = transport;
+    const machine = new Machine({ collection, id, source, nextNumber, now: clock.now, freeze });
     // (the state is in a closure, so that a proxy of the document works too)
     const core = { doc: this, transport, machine, collection, id, waiting: false, timer: null, leaving: null };
     Object.defineProperty(this, '_doc', { value: () => core });
@@ -97,10 +103,11 @@ export class Doc extends Emitter {
 
   /**
    * The document with own edits: never change it. It is undefined if none exists.
-   * @returns {T | undefined}
+   * @returns {Frozen<T> | undefined}
    */
   get data() {
-    return plain(coreOf(this).machine.data);
+    const { machine } = coreOf(this);
+    return machine.readable(machine.data);
   }
 
   /**
@@ -109,15 +116,17 @@ export class Doc extends Emitter {
    * @returns {any} undefined if there is none
    */
   valueAt(path) {
-    return plain(valueAt(coreOf(this).machine.data, path, path.length));
+    const { machine } = coreOf(this);
+    return machine.readable(valueAt(machine.data, path, path.length));
   }
 
   /**
    * The server's document at `version`, without pending edits.
-   * @returns {T | undefined}
+   * @returns {Frozen<T> | undefined}
    */
   get confirmed() {
-    return plain(coreOf(this).machine.confirmed);
+    const { machine } = coreOf(this);
+    return machine.readable(machine.confirmed);
   }
 
   /**

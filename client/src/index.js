@@ -5,9 +5,9 @@
  *
  *     const client = new Client('ws://127.0.0.1:8080');
  *     const board = client.document('board', 'demo');
- *     board.on('change', () => show(board.data));
  *     await board.subscribe();
  *     await board.createIfAbsent({ votes: 0 });
+ *     board.on('change', () => console.log(board.data));
  *     await board.submit([{ p: ['votes'], na: 1 }]);
  * @module
  */
@@ -22,6 +22,10 @@ export { apply, complete, compose, cross, invert, textChange, transformComponent
 /** @typedef {import('./ot/component.js').Path} Path */
 /** @typedef {import('./ot/component.js').Component} Component */
 /** @typedef {import('./ot/component.js').Operation} Operation */
+/**
+ * @template T
+ * @typedef {import('./ot/component.js').Frozen<T>} Frozen
+ */
 /** @typedef {import('./content.js').Content} Content */
 /** @typedef {import('./errors.js').Code} Code */
 /** @typedef {import('./doc.js').Entry} Entry */

@@ -26,7 +26,7 @@
 import { applyContent, crossContents, isComplete, isComposable, lengthOf } from './content.js';
 import { Refusal, orRefusal, refusal, refuse } from './errors.js';
 import { LONGEST_MESSAGE, bytesOf, isSendable } from './limits.js';
-import { has, isSame } from './ot/component.js';
+import { frozen, has, isSame } from './ot/component.js';
 import { compose } from './ot/compose.js';
 import { completeOverlaid } from './ot/invert.js';
 import { plain } from './ot/overlay.js';
@@ -37,6 +37,21 @@ import { firstPart, withShortRemoved } from './parts.js';
  * @typedef {'offline' | 'idle' | 'loading' | 'verifying' | 'catching up' | 'live' | 'refused' | 'closed'} State
  */
 /** @typedef {{resolve: (value?: any) => void, reject: (error: Error) => void}} Waiter */
+/** @typedef {{kind: string, from: number | null, purpose: string, waiters: Waiter[], listed: any[]}} Request */
+/** @typedef {{content: Content, length: number, waiters: Waiter[], since: number}} Queued an own content that waits */
+/**
+ * The own content in flight.
+ * @typedef {object} InFlight
+ * @property {Content | null} content transformed; null if it is dropped
+ * @property {number} seq
+ * @property {string} text the message
+ * @property {boolean} sent over this connection
+ * @property {number | null} answered the version, if it was acknowledged
+ * @property {Waiter[]} waiters
+ * @property {number} since the time of the edit
+ * @property {Content | null} lost the content, if the server will refuse it
+ * @property {Queued[]} dropped the contents made on it
+ */
 /**
  * @typedef {object} Transition
  * @property {State} state
@@ -52,12 +67,16 @@ const NEWER = 'ERR_OP_VERSION_NEWER_THAN_CURRENT_SNAPSHOT';
 const BEGINNING = new Set(['loading', 'verifying', 'catching up']);
 
 export class Machine {
-  /** @param {{collection: string, id: string, source: string, nextNumber: () => number, now: () => number}} settings */
-  constructor({ collection, id, source, nextNumber, now }) {
+  /**
+   * @param {{collection: string, id: string, source: string, nextNumber: () => number, now: () => number,
+   *   freeze?: boolean}} settings
+   */
+  constructor({ collection, id, source, nextNumber, now, freeze = false }) {
     this.address = { c: collection, d: id };
     this.source = source;
     this.nextNumber = nextNumber;
     this.now = now;
+    this.freeze = freeze;
     // bytes of the components of a message
     this.room = LONGEST_MESSAGE - bytesOf(this.textOf({ op: [] }, Number.MAX_SAFE_INTEGER, Number.MAX_SAFE_INTEGER));
     /** @type {State} */
@@ -65,9 +84,12 @@ export class Machine {
     this.version = null;
     this.confirmed = undefined;
     this.data = undefined;
+    /** @type {{source: string, seq: number} | null} */
     this.last = null; // the source and number of the stored operation before `version`, if it was seen
-    this.inFlight = null; // { content, seq, text, sent, answered, waiters, since, lost, dropped }; see `doom`
-    this.queue = []; // { content, length, waiters, since }
+    /** @type {InFlight | null} */
+    this.inFlight = null;
+    /** @type {Queued[]} */
+    this.queue = [];
     this.preventCompose = false; // an edit isn't joined with a waiting one
     this.arrived = new Map(); // stored operations received before their turn, by version
     this.fetched = null; // a snapshot to compare with, once its version is seen
@@ -81,7 +103,7 @@ export class Machine {
     this.leavers = []; // waiters for the end of the subscription
     this.conditions = []; // { holds, begins, waiter }
     this.failure = null; // why the client connects no more
-    this.out = null;
+    this.out = nothing();
   }
 
   /**
@@ -90,7 +112,7 @@ export class Machine {
    * @throws {Refusal} for an edit that is refused here; nothing is changed then
    */
   transition(input) {
-    this.out = { messages: [], settled: [], events: [], retries: [], comparison: null };
+    this.out = nothing();
     INPUTS[input.type](this, input);
     this.reconcile();
     this.settle();
@@ -125,11 +147,16 @@ export class Machine {
     this.out.events.push([name, detail]);
   }
 
+  /** Returns a document, or a value of one, as a caller receives it. */
+  readable(data) {
+    return this.freeze ? frozen(plain(data)) : plain(data);
+  }
+
   // Emits an event whose documents are made plain once they are read.
   emitDocuments(name, detail, documents) {
     const { before, data } = documents;
-    if (has(documents, 'before')) Object.defineProperty(detail, 'before', { enumerable: true, get: () => plain(before) });
-    Object.defineProperty(detail, 'data', { enumerable: true, get: () => plain(data) });
+    if (has(documents, 'before')) Object.defineProperty(detail, 'before', { enumerable: true, get: () => this.readable(before) });
+    Object.defineProperty(detail, 'data', { enumerable: true, get: () => this.readable(data) });
     this.emit(name, detail);
   }
 
@@ -148,6 +175,7 @@ export class Machine {
   // Requests -----------------------------------------------------------------------------------------------------
 
   request(kind, from, purpose) {
+    /** @type {Request} */
     const request = { kind, from, purpose, waiters: [], listed: [] };
     if (purpose !== 'check') request.waiters.push(...this.fetchers.splice(0));
     this.sendRequest(request);
@@ -298,7 +326,8 @@ export class Machine {
 
   isVerified({ listed, from }) {
     const entry = listed.find(({ version }) => version === from);
-    return entry !== undefined && entry.source === this.last.source && entry.seq === this.last.seq;
+    const { source, seq } = this.last || {};
+    return entry !== undefined && entry.source === source && entry.seq === seq;
   }
 
   // The operations from a version on have been received.
@@ -387,12 +416,13 @@ export class Machine {
   // duplicate may be received before operations of smaller versions, so it is kept.
   receiveOperation(message) {
     const content = contentOf(message);
-    const isOwn = this.isInFlight(message);
+    const own = this.isInFlight(message) ? this.inFlight : null;
+    const isOwn = own !== null;
     const entry = { version: message.v, source: message.src, seq: message.seq, content };
     if (content && this.requests.length > 0) this.requests[0].listed.push(entry);
-    if (isOwn) this.inFlight.answered = message.v;
-    if (isOwn && this.inFlight.content === null && content === null) {
-      this.storedAfterAll(message.v);
+    if (own !== null) own.answered = message.v;
+    if (own !== null && own.content === null && content === null) {
+      this.storedAfterAll(own, message.v);
     } else if ((content !== null || isOwn) && (this.version === null || message.v >= this.version)) {
       if (content !== null || !this.arrived.has(message.v)) this.arrived.set(message.v, entry);
     } else if (isOwn && this.version !== null) {
@@ -401,8 +431,7 @@ export class Machine {
   }
 
   // The client expected a refusal, so the content itself is requested like that of others.
-  storedAfterAll(version) {
-    const { waiters, dropped } = this.inFlight;
+  storedAfterAll({ waiters, dropped }, version) {
     this.inFlight = null;
     this.resolve(waiters, { version });
     this.reportDropped(dropped, new Refusal('ERR_OT_OP_NOT_APPLIED'));
@@ -428,7 +457,7 @@ export class Machine {
     const content = entry.content || (own && own.content);
     if (content === null) {
       // (the client knows the content no more)
-      if (own !== null) this.storedAfterAll(version);
+      if (own !== null) this.storedAfterAll(own, version);
       else this.ask(version, 'catch up');
       return;
     }
@@ -537,7 +566,7 @@ export class Machine {
   // The server was restarted and has lost this document. Its present document is another one.
   restart() {
     const error = new Refusal('ERR_SERVER_RESTARTED');
-    const lost = { version: this.version, data: plain(this.confirmed), contents: this.contents() };
+    const lost = { version: this.version, data: this.readable(this.confirmed), contents: this.contents() };
     const dropped = this.takePending();
     this.forgetData();
     this.reportDropped(dropped, error);
@@ -583,8 +612,10 @@ export class Machine {
 
   // Own contents -------------------------------------------------------------------------------------------------
 
+  /** @returns {any[]} */
   pendingRecords() {
-    return this.inFlight && this.inFlight.content !== null ? [this.inFlight, ...this.queue] : this.queue;
+    const { inFlight, queue } = this;
+    return inFlight && inFlight.content !== null ? [inFlight, ...queue] : queue;
   }
 
   contents() {
@@ -623,17 +654,18 @@ export class Machine {
 
   enqueue(content, waiter) {
     const last = this.queue[this.queue.length - 1];
+    const waiting = last && !this.preventCompose ? last.content.op : undefined;
     const length = content.op ? lengthOf(content.op) : 0;
-    const areEdits = last !== undefined && last.content.op !== undefined && content.op !== undefined;
-    const isJoined = areEdits && !this.preventCompose;
-    if (!isJoined || !isComposable(last.content.op.length + content.op.length, last.length + length)) {
+    if (!waiting || !content.op || !isComposable(waiting.length + content.op.length, last.length + length)) {
       this.queue.push({ content, length, waiters: [waiter], since: this.now() });
       return;
     }
-    last.content = { op: compose(last.content.op, content.op) };
-    last.length += length;
+    const joined = compose(waiting, content.op);
+    Object.assign(last, { content: { op: joined }, length: last.length + length });
     last.waiters.push(waiter);
-    if (last.content.op.length === 0) this.resolve(this.queue.pop().waiters, { version: null });
+    if (joined.length > 0) return;
+    this.queue.pop();
+    this.resolve(last.waiters, { version: null });
   }
 
   textOf(content, version, seq) {
@@ -645,9 +677,10 @@ export class Machine {
     if (this.inFlight !== null) {
       if (!this.inFlight.sent) this.out.messages.push(this.inFlight.text);
       this.inFlight.sent = true;
-    } else if (this.queue.length > 0) {
-      this.sendFirst(this.queue.shift());
+      return;
     }
+    const first = this.queue.shift();
+    if (first) this.sendFirst(first);
   }
 
   // An operation that grew beyond the server's limits is sent in parts. Its promise waits for the last one.
@@ -673,15 +706,16 @@ export class Machine {
   // Drops pending contents from one on. The answer to the one in flight is outstanding, so it stays without a content.
   // Returns those that are dropped now.
   dropFrom(at) {
+    const record = this.inFlight;
     const sent = this.pendingRecords().length - this.queue.length;
-    if (at >= sent) return this.queue.splice(at - sent);
-    Object.assign(this.inFlight, { lost: this.inFlight.content, content: null, dropped: this.queue.splice(0) });
+    if (record === null || at >= sent) return this.queue.splice(at - sent);
+    Object.assign(record, { lost: record.content, content: null, dropped: this.queue.splice(0) });
     return [];
   }
 
   // The operation in flight isn't stored: it is dropped, with those made on it. The document is fetched and compared.
   refused(error) {
-    const record = this.inFlight;
+    const record = /** @type {InFlight} */ (this.inFlight);
     const isKnown = record.content === null;
     const dropped = [record, ...(isKnown ? record.dropped : this.queue.splice(0))];
     this.inFlight = null;
@@ -776,6 +810,12 @@ export class Machine {
     else if (message.a === 'op') this.receiveOperation(message);
     else this.receiveAnswer(message);
   }
+}
+
+// Returns the effects of a transition that has none.
+/** @returns {Omit<Transition, 'state'>} */
+function nothing() {
+  return { messages: [], settled: [], events: [], retries: [], comparison: null };
 }
 
 const INPUTS = {

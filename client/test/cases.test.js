@@ -728,6 +728,31 @@ test('each event has the documents of its version, also if they are read later',
   assert.strictEqual(told[5].data, doc.data);
 });
 
+test('data are frozen by an option, and in development', OPTIONS, () => {
+  const before = process.env.NODE_ENV;
+  try {
+    for (const [name, freeze, isFrozen] of [['development', undefined, true], ['production', undefined, false], ['production', true, true],
+      ['development', false, false]]) {
+      process.env.NODE_ENV = name;
+      const { doc, socket } = loaded({ o: { k: { t: 'a' } }, l: [{ t: 'b' }], n: 1 }, { freeze });
+      const all = [];
+      doc.on('change', ({ before: earlier, data }) => all.push(earlier, data));
+      const write = () => all.push(doc.data, doc.confirmed, doc.data.o, doc.data.o.k, doc.data.l, doc.data.l[0], doc.valueAt(['o']));
+      write();
+      doc.submit([{ p: ['o', 'k', 't', 0], si: 'x' }, { p: ['l', 0, 't', 0], si: 'y' }, { p: ['m'], oi: { list: [] } }]);
+      all.push(doc.data.m, doc.data.m.list);
+      write();
+      socket.answer(acknowledged(3, 1), stored(4, [{ p: ['l', 0], li: [] }]));
+      write();
+      assert.ok(all.every((value) => Object.isFrozen(value) === isFrozen), `${name} ${freeze}`);
+      holds(doc, 5, { o: { k: { t: 'xa' } }, l: [[], { t: 'yb' }], n: 1, m: { list: [] } });
+    }
+  } finally {
+    if (before === undefined) delete process.env.NODE_ENV;
+    else process.env.NODE_ENV = before;
+  }
+});
+
 test('an object with many changed members', OPTIONS, () => {
   const { client, doc } = loaded({ o: { first: 0 } });
   client.disconnect();

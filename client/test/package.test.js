@@ -27,9 +27,47 @@ const PROGRAM = `
   });
 `;
 
+// Loads each export in both ways, and prints those that give no names or other ones.
+const EXPORTS = `
+  const { exports: listed, unpkg, jsdelivr, main, module: entry, types } = require('navirotsohy/package.json');
+  const isMissing = (file) => !require('fs').existsSync('node_modules/navirotsohy/' + file);
+  const files = [unpkg, jsdelivr, main, entry, types].filter(isMissing);
+  const modules = Object.keys(listed).filter((path) => path !== './package.json');
+  const paths = modules.map((path) => 'navirotsohy' + path.slice(1));
+  const names = (api) => Object.keys(api).filter((name) => name !== 'default').sort().join();
+  const isFine = async (path) => names(await import(path)) === names(require(path)) && names(require(path)) !== '';
+  Promise.all(paths.map(isFine)).then((fine) => console.log(paths.filter((path, at) => !fine[at]).concat(files)));
+`;
+
+// Sets the global WebSocket to one of the model's server, which is in the same process.
+const MODEL = `
+  import { Server } from ${JSON.stringify(new URL('support/server.js', import.meta.url).href)};
+  const server = new Server();
+  globalThis.WebSocket = class {
+    constructor() {
+      this.session = server.open((message) => setTimeout(() => this.onmessage({ data: JSON.stringify(message) }), 1));
+    }
+    send(text) {
+      setTimeout(() => server.receive(this.session, JSON.parse(text)), 1);
+    }
+    close() {}
+  };
+`;
+
+// Runs the first program of each document as it stands.
+function runFirstPrograms(project) {
+  fs.writeFileSync(path.join(project, 'model.mjs'), MODEL);
+  for (const name of ['client/README.md', 'docs/CLIENT.md']) {
+    const [, program] = /```js\n(import [^`]*)```/.exec(fs.readFileSync(path.join(ROOT, name), 'utf8'));
+    fs.writeFileSync(path.join(project, 'first.mjs'), program);
+    const printed = run('node', ['--import', './model.mjs', 'first.mjs'], project);
+    assert.strictEqual(printed, '{ votes: 1, title: \'\' }\n{ votes: 1, title: \'Plan\' }\n', name);
+  }
+}
+
 function run(command, args, cwd) {
   const env = { ...process.env, npm_config_cache: path.join(cwd, 'cache'), npm_config_update_notifier: 'false' };
-  const ran = spawnSync(command, args, { cwd, env, encoding: 'utf8' });
+  const ran = spawnSync(command, args, { cwd, env, encoding: 'utf8', timeout: 60000 });
   if (ran.error && ran.error.code === 'ENOENT') return null;
   assert.strictEqual(ran.status, 0, `${command} ${args.join(' ')}: ${ran.stdout}${ran.stderr}`);
   return ran.stdout;
@@ -62,6 +100,9 @@ test('npm installs the package from a git address, without a registry', OPTIONS,
     fs.writeFileSync(path.join(project, 'use.cjs'), PROGRAM);
     const { version } = JSON.parse(fs.readFileSync(path.join(ROOT, 'package.json'), 'utf8'));
     assert.strictEqual(run('node', ['use.cjs'], project), `true\ntrue\n${version} string\n`);
+    fs.writeFileSync(path.join(project, 'exports.cjs'), EXPORTS);
+    assert.strictEqual(run('node', ['exports.cjs'], project), '[]\n');
+    runFirstPrograms(project);
     for (const name of ['use.mts', 'use.cts']) {
       fs.copyFileSync(path.join(TEST, 'types', name), path.join(project, name));
     }

@@ -18,7 +18,7 @@ export class Cluster extends Emitter<ClusterEvents> {
      * @param {number} buckets how many there are: the same number in all clients
      * @param {ClusterOptions} [options]
      */
-    constructor(address: string | ((bucket: number) => string | Promise<string>), buckets: number, options?: ClusterOptions);
+    constructor(address: string | ((bucket: number) => string | Promise<string>), buckets: number, options?: ClusterOptions | undefined);
     /**
      * The base address.
      * @returns {string | ((bucket: number) => string | Promise<string>)}
@@ -45,14 +45,14 @@ export class Cluster extends Emitter<ClusterEvents> {
      * Why a connection in use has failed.
      * @returns {Refusal | null}
      */
-    get error(): Refusal;
+    get error(): Refusal | null;
     /**
      * Why the last connection, or the last attempt, ended.
      * @returns {Closing & {bucket: number} | null}
      */
-    get closing(): import("./connection.cjs").Closing & {
+    get closing(): (import("./connection.cjs").Closing & {
         bucket: number;
-    };
+    }) | null;
     /**
      * Whether an edit of any document waits for more than two seconds.
      * @returns {boolean}
@@ -85,7 +85,7 @@ export class Cluster extends Emitter<ClusterEvents> {
      * @param {number | null} [version] the present one by default
      * @returns {Promise<import('./doc.cjs').Snapshot>}
      */
-    snapshot(collection: string, id: string, version?: number | null): Promise<import('./doc.cjs').Snapshot>;
+    snapshot(collection: string, id: string, version?: number | null | undefined): Promise<import('./doc.cjs').Snapshot>;
     /**
      * A document at a time of the clock of its bucket's server.
      * @param {string} collection
@@ -93,7 +93,7 @@ export class Cluster extends Emitter<ClusterEvents> {
      * @param {number | null} [moment] in milliseconds since 1970; the present version without one
      * @returns {Promise<import('./doc.cjs').Snapshot>}
      */
-    snapshotAtTime(collection: string, id: string, moment?: number | null): Promise<import('./doc.cjs').Snapshot>;
+    snapshotAtTime(collection: string, id: string, moment?: number | null | undefined): Promise<import('./doc.cjs').Snapshot>;
     /** @returns {Promise<void>} is fulfilled when nothing is pending in any document */
     whenNothingPending(): Promise<void>;
 }

@@ -14,7 +14,7 @@ export class Client extends Emitter<ClientEvents> {
      * new token, or a promise of an address. If that is rejected, the client tries again
      * @param {ClientOptions} [options]
      */
-    constructor(address: Address, options?: ClientOptions);
+    constructor(address: Address, options?: ClientOptions | undefined);
     /**
      * The server's address.
      * @returns {Address}
@@ -28,12 +28,12 @@ export class Client extends Emitter<ClientEvents> {
      * Why the client has failed.
      * @returns {Refusal | null}
      */
-    get error(): Refusal;
+    get error(): Refusal | null;
     /**
      * Why the last connection, or the last attempt, ended.
      * @returns {Closing | null}
      */
-    get closing(): Closing;
+    get closing(): Closing | null;
     /**
      * Whether an edit of any document waits for more than two seconds.
      * @returns {boolean}
@@ -60,7 +60,7 @@ export class Client extends Emitter<ClientEvents> {
      * @param {number | null} [version] the present one by default
      * @returns {Promise<import('./doc.js').Snapshot>}
      */
-    snapshot(collection: string, id: string, version?: number | null): Promise<import('./doc.js').Snapshot>;
+    snapshot(collection: string, id: string, version?: number | null | undefined): Promise<import('./doc.js').Snapshot>;
     /**
      * A document at a time of the server's clock.
      * @param {string} collection
@@ -68,7 +68,7 @@ export class Client extends Emitter<ClientEvents> {
      * @param {number | null} [moment] in milliseconds since 1970; the present version without one
      * @returns {Promise<import('./doc.js').Snapshot>}
      */
-    snapshotAtTime(collection: string, id: string, moment?: number | null): Promise<import('./doc.js').Snapshot>;
+    snapshotAtTime(collection: string, id: string, moment?: number | null | undefined): Promise<import('./doc.js').Snapshot>;
     /** @returns {Promise<void>} is fulfilled when nothing is pending in any document */
     whenNothingPending(): Promise<void>;
 }
@@ -114,7 +114,7 @@ export type ClientOptions = {
      * names this client in all its edits. No two clients may share one, and none may be reused
      * after a reload: a number that the server knows is a duplicate. Random by default.
      */
-    source?: string;
+    source?: string | undefined;
     /**
      * the class, if there is no global one
      */
@@ -122,38 +122,43 @@ export type ClientOptions = {
     /**
      * false: the client connects only when `connect` is called
      */
-    connect?: boolean;
+    connect?: boolean | undefined;
     /**
      * milliseconds until an attempt without a handshake is given up: 20000
      */
-    connectTimeout?: number;
+    connectTimeout?: number | undefined;
     /**
      * milliseconds of silence after which a sign of life is requested: 20000
      */
-    heartbeat?: number;
+    heartbeat?: number | undefined;
     /**
      * the longest delay before the first reconnect, in milliseconds: 1000. The delay is
      * doubled each time, and shortened at random: the first by up to all of it, the others by up to a half. A connection
      * that lasted for 5 seconds ends the growth
      */
-    retryDelay?: number;
+    retryDelay?: number | undefined;
     /**
      * the longest delay: 30000
      */
-    longestDelay?: number;
+    longestDelay?: number | undefined;
     /**
      * after this many failures in a row the client ends, with the state 'failed'. A
      * connection that is lost within 5 seconds is a failure too
      */
-    mostTries?: number;
+    mostTries?: number | undefined;
+    /**
+     * freezes the data of documents, so that a write to them throws: by default if
+     * `process.env.NODE_ENV` is 'development'
+     */
+    freeze?: boolean | undefined;
     /**
      * the timers; those of the platform by default
      */
-    clock?: Clock;
+    clock?: Clock | undefined;
     /**
      * from 0 to below 1, for the delays
      */
-    random?: () => number;
+    random?: (() => number) | undefined;
 };
 import { Emitter } from "./emitter.js";
 import { Refusal } from "./errors.js";

@@ -12,6 +12,10 @@ export function coreFor(transport: any, collection: any, id: any): any;
 /** Milliseconds after which a pending edit is reported as waiting. */
 export const PATIENCE: 2000;
 /** @typedef {import('./ot/component.cjs').Operation} Operation */
+/**
+ * @template T
+ * @typedef {import('./ot/component.cjs').Frozen<T>} Frozen
+ */
 /** @typedef {import('./content.cjs').Content} Content */
 /** @typedef {import('./machine.cjs').State} DocState */
 /**
@@ -30,16 +34,19 @@ export const PATIENCE: 2000;
  * @template [T=any]
  * @typedef {object} DocEvents
  * @property {{version: number}} load the whole document was received, at first and after a restart of the server
- * @property {{operation: Operation, source: any, local: boolean, before: T, data: T}} op an operation changed `data`
- * @property {{source: any, local: boolean, data: T}} create the document was created
- * @property {{source: any, local: boolean, data: T}} remove the document was deleted; `data` is the document before it
- * @property {{operation: Operation | null, source: any, local: boolean, before: T | undefined, data: T | undefined}}
- *   change `data` has changed: by an operation or, if that is null, as a whole
+ * @property {{operation: Operation, source: any, local: boolean, before: Frozen<T>, data: Frozen<T>}} op an operation
+ *   changed `data`
+ * @property {{source: any, local: boolean, data: Frozen<T>}} create the document was created
+ * @property {{source: any, local: boolean, data: Frozen<T>}} remove the document was deleted; `data` is the document
+ *   before it
+ * @property {{operation: Operation | null, source: any, local: boolean, before: Frozen<T> | undefined,
+ *   data: Frozen<T> | undefined}} change `data` has changed: by an operation or, if that is null, as a whole
  * @property {Seen} version a stored operation of any client was received
  * @property {Seen} stored an own operation was received
  * @property {{error: Refusal, contents: Content[]}} refused own edits were dropped
- * @property {{version: number, data: T | undefined, contents: Content[]}} restarted the server was restarted and has
- *   lost the document: `data` is the document as it was stored, `contents` are the pending edits, which are dropped
+ * @property {{version: number, data: Frozen<T> | undefined, contents: Content[]}} restarted the server was restarted
+ *   and has lost the document: `data` is the document as it was stored, `contents` are the pending edits, which are
+ *   dropped
  * @property {{version: number}} healed the document here differed from the server's and was replaced
  * @property {{waiting: boolean}} waiting an edit waits for more than two seconds, or no edit does
  * @property {Refusal} error the document can't be subscribed to or fetched
@@ -71,12 +78,12 @@ export class Doc<T = any> extends Emitter<DocEvents<T>> {
      * The version seen, null before the first answer.
      * @returns {number | null}
      */
-    get version(): number;
+    get version(): number | null;
     /**
      * The document with own edits: never change it. It is undefined if none exists.
-     * @returns {T | undefined}
+     * @returns {Frozen<T> | undefined}
      */
-    get data(): T;
+    get data(): import("./ot/component.cjs").Frozen<T> | undefined;
     /**
      * A value of `data`, for documents with large objects: `data` copies each object that has changed since it was read.
      * @param {import('./ot/component.cjs').Path} path
@@ -85,9 +92,9 @@ export class Doc<T = any> extends Emitter<DocEvents<T>> {
     valueAt(path: import('./ot/component.cjs').Path): any;
     /**
      * The server's document at `version`, without pending edits.
-     * @returns {T | undefined}
+     * @returns {Frozen<T> | undefined}
      */
-    get confirmed(): T;
+    get confirmed(): import("./ot/component.cjs").Frozen<T> | undefined;
     /**
      * The source of this client's edits.
      * @returns {string}
@@ -137,26 +144,26 @@ export class Doc<T = any> extends Emitter<DocEvents<T>> {
      * @returns {Promise<void>}
      */
     destroy(options?: {
-        discard?: boolean;
-    }): Promise<void>;
+        discard?: boolean | undefined;
+    } | undefined): Promise<void>;
     /**
      * The document at a version.
      * @param {number | null} [version] the present one by default
      * @returns {Promise<Snapshot<T>>}
      */
-    snapshot(version?: number | null): Promise<Snapshot<T>>;
+    snapshot(version?: number | null | undefined): Promise<Snapshot<T>>;
     /**
      * The document at a time of the server's clock.
      * @param {number | null} [moment] in milliseconds since 1970, as Date.now() returns; the present version without one
      * @returns {Promise<Snapshot<T>>}
      */
-    snapshotAtTime(moment?: number | null): Promise<Snapshot<T>>;
+    snapshotAtTime(moment?: number | null | undefined): Promise<Snapshot<T>>;
     /**
      * The stored operations from a version on.
      * @param {number} [from]
      * @returns {Promise<Entry[]>}
      */
-    operations(from?: number): Promise<Entry[]>;
+    operations(from?: number | undefined): Promise<Entry[]>;
     /**
      * Creates the document.
      * @param {T} data
@@ -164,7 +171,7 @@ export class Doc<T = any> extends Emitter<DocEvents<T>> {
      * @returns {Promise<{version: number}>} the version at which it is stored; refused with ERR_DOC_ALREADY_CREATED if
      * the document exists
      */
-    create(data: T, options?: SubmitOptions): Promise<{
+    create(data: T, options?: SubmitOptions | undefined): Promise<{
         version: number;
     }>;
     /**
@@ -181,7 +188,7 @@ export class Doc<T = any> extends Emitter<DocEvents<T>> {
      * @returns {Promise<{version: number | null}>} the version at which it is stored, null if there was nothing to store.
      * If it can't be applied here it is refused at once, and nothing is changed.
      */
-    submit(operation: import("./ot/component.cjs").Operation, options?: SubmitOptions): Promise<{
+    submit(operation: import("./ot/component.cjs").Operation, options?: SubmitOptions | undefined): Promise<{
         version: number | null;
     }>;
     /**
@@ -189,16 +196,17 @@ export class Doc<T = any> extends Emitter<DocEvents<T>> {
      * @param {SubmitOptions} [options]
      * @returns {Promise<{version: number}>}
      */
-    remove(options?: SubmitOptions): Promise<{
+    remove(options?: SubmitOptions | undefined): Promise<{
         version: number;
     }>;
     /**
      * @param {() => void} [listener]
      * @returns {Promise<void>} is fulfilled when nothing is pending
      */
-    whenNothingPending(listener?: () => void): Promise<void>;
+    whenNothingPending(listener?: (() => void) | undefined): Promise<void>;
 }
 export type Operation = import('./ot/component.cjs').Operation;
+export type Frozen<T> = import('./ot/component.cjs').Frozen<T>;
 export type Content = import('./content.cjs').Content;
 export type DocState = import('./machine.cjs').State;
 /**
@@ -233,14 +241,15 @@ export type DocEvents<T = any> = {
         version: number;
     };
     /**
-     * an operation changed `data`
+     * an operation
+     * changed `data`
      */
     op: {
         operation: import("./ot/component.cjs").Operation;
         source: any;
         local: boolean;
-        before: T;
-        data: T;
+        before: Frozen<T>;
+        data: Frozen<T>;
     };
     /**
      * the document was created
@@ -248,15 +257,16 @@ export type DocEvents<T = any> = {
     create: {
         source: any;
         local: boolean;
-        data: T;
+        data: Frozen<T>;
     };
     /**
-     * the document was deleted; `data` is the document before it
+     * the document was deleted; `data` is the document
+     * before it
      */
     remove: {
         source: any;
         local: boolean;
-        data: T;
+        data: Frozen<T>;
     };
     /**
      * `data` has changed: by an operation or, if that is null, as a whole
@@ -265,8 +275,8 @@ export type DocEvents<T = any> = {
         operation: import("./ot/component.cjs").Operation | null;
         source: any;
         local: boolean;
-        before: T | undefined;
-        data: T | undefined;
+        before: Frozen<T> | undefined;
+        data: Frozen<T> | undefined;
     };
     /**
      * a stored operation of any client was received
@@ -284,12 +294,13 @@ export type DocEvents<T = any> = {
         contents: Content[];
     };
     /**
-     * the server was restarted and has
-     * lost the document: `data` is the document as it was stored, `contents` are the pending edits, which are dropped
+     * the server was restarted
+     * and has lost the document: `data` is the document as it was stored, `contents` are the pending edits, which are
+     * dropped
      */
     restarted: {
         version: number;
-        data: T | undefined;
+        data: Frozen<T> | undefined;
         contents: Content[];
     };
     /**

@@ -29,8 +29,8 @@ export class Emitter<Events> {
      * @returns {() => void} removes the listener
      */
     on<Name extends keyof Events>(event: Name, listener: (detail: Events[Name]) => void, options?: {
-        signal?: AbortSignal;
-    }): () => void;
+        signal?: AbortSignal | undefined;
+    } | undefined): () => void;
     /**
      * As `on`, for the next event only.
      * @template {keyof Events} Name
@@ -40,15 +40,15 @@ export class Emitter<Events> {
      * @returns {() => void} removes the listener
      */
     once<Name_1 extends keyof Events>(event: Name_1, listener: (detail: Events[Name_1]) => void, options?: {
-        signal?: AbortSignal;
-    }): () => void;
+        signal?: AbortSignal | undefined;
+    } | undefined): () => void;
     /**
      * Removes a listener, or without one all listeners of the event.
      * @template {keyof Events} Name
      * @param {Name} event
      * @param {(detail: Events[Name]) => void} [listener]
      */
-    off<Name_2 extends keyof Events>(event: Name_2, listener?: (detail: Events[Name_2]) => void): void;
+    off<Name_2 extends keyof Events>(event: Name_2, listener?: ((detail: Events[Name_2]) => void) | undefined): void;
     /**
      * Calls the listeners of an event, after those of the events that are being emitted.
      * @template {keyof Events} Name

@@ -11,7 +11,7 @@ export function refusal(code: Code, reason: string): Refusal;
  * @param {string} [reason]
  * @returns {never}
  */
-export function refuse(code: Code, reason?: string): never;
+export function refuse(code: Code, reason?: string | undefined): never;
 /**
  * Returns the result of the action, or the value for its refusal.
  * @template Result, Other
@@ -32,7 +32,7 @@ export class Refusal extends Error {
      * @param {Code} code
      * @param {string} [message]
      */
-    constructor(code: Code, message?: string);
+    constructor(code: Code, message?: string | undefined);
     /** @type {'Refusal'} */
     name: 'Refusal';
     /** @type {Code} */

@@ -6,6 +6,7 @@ export type Data = import('./ot/component.cjs').Data;
 export type Path = import('./ot/component.cjs').Path;
 export type Component = import('./ot/component.cjs').Component;
 export type Operation = import('./ot/component.cjs').Operation;
+export type Frozen<T> = import('./ot/component.cjs').Frozen<T>;
 export type Content = import('./content.cjs').Content;
 export type Code = import('./errors.cjs').Code;
 export type Entry = import('./doc.cjs').Entry;

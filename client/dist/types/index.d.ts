@@ -6,6 +6,7 @@ export type Data = import('./ot/component.js').Data;
 export type Path = import('./ot/component.js').Path;
 export type Component = import('./ot/component.js').Component;
 export type Operation = import('./ot/component.js').Operation;
+export type Frozen<T> = import('./ot/component.js').Frozen<T>;
 export type Content = import('./content.js').Content;
 export type Code = import('./errors.js').Code;
 export type Entry = import('./doc.js').Entry;

@@ -1,12 +1,16 @@
 export function dataOf(snapshot: any): any;
 export class Machine {
-    /** @param {{collection: string, id: string, source: string, nextNumber: () => number, now: () => number}} settings */
-    constructor({ collection, id, source, nextNumber, now }: {
+    /**
+     * @param {{collection: string, id: string, source: string, nextNumber: () => number, now: () => number,
+     *   freeze?: boolean}} settings
+     */
+    constructor({ collection, id, source, nextNumber, now, freeze }: {
         collection: string;
         id: string;
         source: string;
         nextNumber: () => number;
         now: () => number;
+        freeze?: boolean;
     });
     address: {
         c: string;
@@ -15,34 +19,28 @@ export class Machine {
     source: string;
     nextNumber: () => number;
     now: () => number;
+    freeze: boolean;
     room: number;
     /** @type {State} */
     state: State;
     version: any;
     confirmed: any;
     data: any;
+    /** @type {{source: string, seq: number} | null} */
     last: {
-        source: any;
-        seq: any;
-    };
-    inFlight: {
-        content: any;
+        source: string;
         seq: number;
-        text: string;
-        sent: boolean;
-        answered: any;
-        waiters: any;
-        since: any;
-        lost: any;
-        dropped: any[];
-    };
-    queue: any[];
+    } | null;
+    /** @type {InFlight | null} */
+    inFlight: InFlight | null;
+    /** @type {Queued[]} */
+    queue: Queued[];
     preventCompose: boolean;
     arrived: Map<any, any>;
     fetched: {
         version: any;
         data: any;
-    };
+    } | null;
     wanted: boolean;
     followed: boolean;
     requests: any[];
@@ -53,13 +51,7 @@ export class Machine {
     leavers: any[];
     conditions: any[];
     failure: any;
-    out: {
-        messages: any[];
-        settled: any[];
-        events: any[];
-        retries: any[];
-        comparison: any;
-    };
+    out: Omit<Transition, "state">;
     /**
      * @param {{type: string, [member: string]: any}} input
      * @returns {Transition}
@@ -72,12 +64,14 @@ export class Machine {
     /** The number of own contents that aren't known to be stored. */
     get pending(): number;
     /** The time at which the oldest pending edit was made, or null. */
-    get pendingSince(): any;
+    get pendingSince(): number | null;
     /** Whether no answer is outstanding. */
     get isQuiet(): boolean;
     /** Whether nothing is outstanding that could change the document. */
     get isSettled(): boolean;
     emit(name: any, detail: any): void;
+    /** Returns a document, or a value of one, as a caller receives it. */
+    readable(data: any): any;
     emitDocuments(name: any, detail: any, documents: any): void;
     resolve(waiters: any, value: any): void;
     reject(waiters: any, error: any): void;
@@ -119,7 +113,10 @@ export class Machine {
         src: any;
     }): boolean;
     receiveOperation(message: any): void;
-    storedAfterAll(version: any): void;
+    storedAfterAll({ waiters, dropped }: {
+        waiters: any;
+        dropped: any;
+    }, version: any): void;
     get canAdvance(): boolean;
     advance(): void;
     see(entry: any): void;
@@ -135,8 +132,9 @@ export class Machine {
     restart(): void;
     heal(error: any): void;
     forgetData(): void;
-    takePending(): any[];
-    takeUnanswered(): any[];
+    takePending(): (Queued | InFlight)[];
+    takeUnanswered(): (Queued | InFlight)[];
+    /** @returns {any[]} */
     pendingRecords(): any[];
     contents(): any[];
     checkLoaded(): void;
@@ -160,7 +158,7 @@ export class Machine {
         waiters: any;
         since: any;
     }): void;
-    dropFrom(at: any): any[];
+    dropFrom(at: any): Queued[];
     refused(error: any): void;
     reportDropped(records: any, error: any): void;
     connected(): void;
@@ -198,6 +196,57 @@ export type State = 'offline' | 'idle' | 'loading' | 'verifying' | 'catching up'
 export type Waiter = {
     resolve: (value?: any) => void;
     reject: (error: Error) => void;
+};
+export type Request = {
+    kind: string;
+    from: number | null;
+    purpose: string;
+    waiters: Waiter[];
+    listed: any[];
+};
+/**
+ * an own content that waits
+ */
+export type Queued = {
+    content: Content;
+    length: number;
+    waiters: Waiter[];
+    since: number;
+};
+/**
+ * The own content in flight.
+ */
+export type InFlight = {
+    /**
+     * transformed; null if it is dropped
+     */
+    content: Content | null;
+    seq: number;
+    /**
+     * the message
+     */
+    text: string;
+    /**
+     * over this connection
+     */
+    sent: boolean;
+    /**
+     * the version, if it was acknowledged
+     */
+    answered: number | null;
+    waiters: Waiter[];
+    /**
+     * the time of the edit
+     */
+    since: number;
+    /**
+     * the content, if the server will refuse it
+     */
+    lost: Content | null;
+    /**
+     * the contents made on it
+     */
+    dropped: Queued[];
 };
 export type Transition = {
     state: State;

@@ -8,7 +8,12 @@ import { DEEPEST, LARGEST, LONGEST_PATH, MOST_COMPONENTS, isText } from '../limi
 /**
  * A value of a document: null, a boolean, a whole number, a text, a list or an object. Numbers are whole, from
  * -9007199254740991 to 9007199254740991.
- * @typedef {null | boolean | number | string | any[] | {[key: string]: any}} Data
+ * @typedef {null | boolean | number | string | readonly any[] | {[key: string]: any}} Data
+ */
+/**
+ * A value that isn't changed in place, at any depth.
+ * @template T
+ * @typedef {0 extends (1 & T) ? T : T extends object ? {readonly [Key in keyof T]: Frozen<T[Key]>} : T} Frozen
  */
 /**
  * Keys of objects and indices of lists. The last step of `si` and `sd` is an offset in UTF-16 units.
@@ -168,6 +173,18 @@ export function readOperation(operation) {
 export function isShallow(value, room = DEEPEST) {
   if (value === null || typeof value !== 'object') return true;
   return room > 0 && Object.keys(value).every((key) => isShallow(value[key], room - 1));
+}
+
+/**
+ * Freezes a value and what it contains. What is frozen already isn't visited.
+ * @param {any} value
+ * @returns {any}
+ */
+export function frozen(value) {
+  if (value === null || typeof value !== 'object' || Object.isFrozen(value)) return value;
+  Object.freeze(value);
+  for (const key of Object.keys(value)) frozen(value[key]);
+  return value;
 }
 
 /**

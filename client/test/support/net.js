@@ -33,7 +33,7 @@ export class Net {
   /** Returns a client and its document. */
   client(source, options = {}) {
     const { WebSocket, clock } = this;
-    const client = new Client('ws://model', { source, WebSocket, clock, retryDelay: 1, longestDelay: 2, heartbeat: 1e9, ...options });
+    const client = new Client('ws://model', { source, WebSocket, clock, retryDelay: 1, longestDelay: 2, heartbeat: 1e9, freeze: true, ...options });
     return { client, doc: client.document('b', '1') };
   }
 

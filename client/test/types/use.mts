@@ -2,7 +2,7 @@
 import { Client, Cluster, Doc, Emitter, Refusal, apply, bucketOf, complete, compose, cross, invert } from 'navirotsohy';
 import { textChange, transformComponent, transformOffset } from 'navirotsohy';
 import { cross as crossOnly } from 'navirotsohy/ot';
-import type { BucketState, Closing, Component, Data, DocEvents, Entry, Operation, Snapshot } from 'navirotsohy';
+import type { BucketState, Closing, Component, Data, DocEvents, Entry, Frozen, Operation, Snapshot } from 'navirotsohy';
 
 interface Card {
   title: string;
@@ -16,7 +16,7 @@ interface Board {
 
 const options = { source: 'a', retryDelay: 10, longestDelay: 20, mostTries: 3, connect: false, heartbeat: 5, connectTimeout: 9 };
 const client: Client = new Client('ws://127.0.0.1:8080', options);
-new Client(() => 'ws://127.0.0.1:8080', { clock: { now: () => 0, setTimeout, clearTimeout }, random: Math.random });
+new Client(async () => 'ws://127.0.0.1:8080', { freeze: true, clock: { now: () => 0, setTimeout, clearTimeout }, random: Math.random });
 client.on('state', (state) => state === 'failed');
 client.on('close', ({ code, reason, text }: Closing) => [code.toFixed(), reason === 'full', text.length]);
 client.once('error', ({ code }) => code === 'ERR_PROTOCOL');
@@ -52,6 +52,12 @@ export async function main(): Promise<void> {
   await (await board.subscribe()).createIfAbsent({ votes: 0, cards: {} });
   await board.fetch();
   const votes: number | undefined = board.data?.votes;
+  // @ts-expect-error: the data are read-only
+  if (board.data) board.data.cards.a.rank = 1;
+  // @ts-expect-error: there may be no document
+  board.data.votes.toFixed();
+  const frozen: Frozen<Board> | undefined = board.confirmed;
+  const title: string = board.valueAt(['cards', 'a', 'title']) ?? frozen?.cards.a.title ?? other.data.anything;
   // @ts-expect-error: not the document's type
   await board.create({ votes: 'many' });
   const operation: Operation = [{ p: ['votes'], na: votes ?? 1 }, { p: ['cards', 'a'], oi: { title: '', rank: 1 } }];
@@ -71,6 +77,7 @@ export async function main(): Promise<void> {
   await board.unsubscribe();
   await board.destroy({ discard: true });
   board.preventCompose = !board.preventCompose;
+  invert(operation, board.data ?? title);
   const waiting: boolean = board.waiting || client.waiting || board.wanted || board.state === 'live';
   const one: Component = operation[0];
   transformComponent(one, one, waiting ? 'left' : 'right').concat(compose(operation, cross(operation, operation).right));

@@ -13,7 +13,7 @@ export function withLastStep(component: any, step: any): any;
  * @param {number} [room] levels
  * @returns {Data}
  */
-export function readData(value: unknown, place?: string, room?: number): Data;
+export function readData(value: unknown, place?: string | undefined, room?: number | undefined): Data;
 /**
  * Copies the operation as the server parses it: without other members and without empty texts.
  * @param {unknown} operation
@@ -26,7 +26,13 @@ export function readOperation(operation: unknown): Operation;
  * @param {number} [room]
  * @returns {boolean}
  */
-export function isShallow(value: Data, room?: number): boolean;
+export function isShallow(value: Data, room?: number | undefined): boolean;
+/**
+ * Freezes a value and what it contains. What is frozen already isn't visited.
+ * @param {any} value
+ * @returns {any}
+ */
+export function frozen(value: any): any;
 /**
  * Compares two values.
  * @param {Data | undefined} data
@@ -37,7 +43,12 @@ export function isSame(data: Data | undefined, other: Data | undefined): boolean
 /**
  * A value of a document: null, a boolean, a whole number, a text, a list or an object. Numbers are whole, from
  * -9007199254740991 to 9007199254740991.
- * @typedef {null | boolean | number | string | any[] | {[key: string]: any}} Data
+ * @typedef {null | boolean | number | string | readonly any[] | {[key: string]: any}} Data
+ */
+/**
+ * A value that isn't changed in place, at any depth.
+ * @template T
+ * @typedef {0 extends (1 & T) ? T : T extends object ? {readonly [Key in keyof T]: Frozen<T[Key]>} : T} Frozen
  */
 /**
  * Keys of objects and indices of lists. The last step of `si` and `sd` is an offset in UTF-16 units.
@@ -63,9 +74,13 @@ export const REMOVING: Set<string>;
  * A value of a document: null, a boolean, a whole number, a text, a list or an object. Numbers are whole, from
  * -9007199254740991 to 9007199254740991.
  */
-export type Data = string | number | boolean | any[] | {
+export type Data = string | number | boolean | readonly any[] | {
     [key: string]: any;
-};
+} | null;
+/**
+ * A value that isn't changed in place, at any depth.
+ */
+export type Frozen<T> = 0 extends 1 & T ? T : T extends any ? { readonly [Key in keyof T]: Frozen<T[Key]>; } : T;
 /**
  * Keys of objects and indices of lists. The last step of `si` and `sd` is an offset in UTF-16 units.
  */

@@ -6,7 +6,7 @@
  * @param {number} [caret] the caret in `after`: the text after it was likely not changed
  * @returns {Operation}
  */
-export function textChange(path: Array<string | number>, before: string, after: string, caret?: number): import("./component.cjs").Operation;
+export function textChange(path: Array<string | number>, before: string, after: string, caret?: number | undefined): import("./component.cjs").Operation;
 /**
  * Returns an offset of a text after an operation: a caret stays before what is inserted at it. If the operation removes
  * the text, the offset is 0.
