@@ -61,36 +61,61 @@ function fromTemplate(name) {
 }
 
 function valueAt(data, path) {
-  return path.reduce((value, step) => value[step], data);
+  return path.reduce((value, step) => (value === undefined ? undefined : value[step]), data);
 }
 
-/** A text field that shows and edits one text of the shared document, at a path. */
+/**
+ * A text field that shows and edits one text of the shared document, at a path. While an input method composes a text,
+ * the field is left alone: what is received meanwhile is shown at the end, and the composed text is sent then.
+ */
 class TextField {
   constructor(element, shared, path, refuse) {
     this.element = element;
     this.shared = shared;
     this.path = path;
     this.refuse = refuse;
-    element.addEventListener('input', () => this.send());
+    this.composition = null; // { text, missed }: the text before it, and the operation of all changes since
+    this.isSending = false; // the field's own edit is being submitted
+    element.addEventListener('input', () => this.composition === null && this.send());
+    element.addEventListener('compositionstart', () => (this.composition = { text: element.value, missed: [] }));
+    element.addEventListener('compositionend', () => this.send());
+  }
+
+  get text() {
+    const { data } = this.shared;
+    return data === undefined ? undefined : valueAt(data, this.path);
   }
 
   // If the edit is refused, the field shows the document's text again.
   async send() {
     const { element, shared, path } = this;
-    const before = valueAt(shared.data, path);
-    const operation = Navirotsohy.textChange(path, before, element.value, element.selectionStart);
+    const { text, missed } = this.composition || { text: this.text, missed: [] };
+    this.composition = null;
+    if (this.text === undefined) return;
+    const own = Navirotsohy.textChange(path, text, element.value, element.selectionStart);
     try {
-      await shared.submit(operation);
+      const { left, right } = Navirotsohy.cross(own, missed);
+      this.isSending = true;
+      const stored = shared.submit(left);
+      this.isSending = false;
+      this.show(this.text, right);
+      await stored;
     } catch (error) {
       this.refuse(error);
-      const data = shared.data !== undefined && path.reduce((value, step) => value && value[step], shared.data);
-      if (typeof data === 'string') this.show(data, null);
+      if (this.text !== undefined) this.show(this.text, null);
     }
   }
 
   /** Shows the text; the caret stays between its two letters. */
   show(text, operation) {
-    const { element, path } = this;
+    const { element, path, composition } = this;
+    if (this.isSending) return;
+    if (composition !== null) {
+      const { missed } = composition;
+      const whole = () => Navirotsohy.textChange(path, composition.text, text);
+      composition.missed = operation ? Navirotsohy.compose(missed, operation) : whole();
+      return;
+    }
     if (element.value === text) return;
     const { selectionStart, selectionEnd, selectionDirection, scrollTop } = element;
     const moved = (offset) => (operation ? Navirotsohy.transformOffset(offset, operation, path) : offset);
@@ -350,13 +375,13 @@ class View {
     this.find('.notice').textContent = text;
   }
 
-  showDocument({ operation, local }) {
+  showDocument({ operation }) {
     const { data, version } = this.shared;
     this.find('fieldset').disabled = data === undefined;
     if (data === undefined) return;
     if (operation === null) this.find('.version').textContent = version;
-    this.text.show(data.text, local ? null : operation);
-    this.board.show(data, local ? null : operation);
+    this.text.show(data.text, operation);
+    this.board.show(data, operation);
   }
 }
 

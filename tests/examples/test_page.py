@@ -113,6 +113,37 @@ def test_refused_paste(server):
     assert in_page(server, "paste", play) == "not stored"
 
 
+def test_input_method(server):
+    """A text is composed while another client edits it: the field isn't changed until the composition ends."""
+
+    async def play(page):
+        start = await page.evaluate("views[0].shared.data.text")
+        await page.evaluate("(() => { const it = views[0].find('textarea'); it.focus(); it.setSelectionRange(3, 3); })()")
+        await page.evaluate(
+            """(() => { window.changes = 0; const it = views[0].find('textarea');
+            const { set, get } = Object.getOwnPropertyDescriptor(HTMLTextAreaElement.prototype, 'value');
+            Object.defineProperty(it, 'value', { get, set(text) { window.changes += 1; set.call(this, text); } }); })()"""
+        )
+        composed = []
+        for text, edit in (("t", "[{ p: ['text', 0], si: 'left ' }]"), ("とう", "[{ p: ['text', 9], si: 'right ' }]")):
+            await page.call("Input.imeSetComposition", text=text, selectionStart=len(text), selectionEnd=len(text))
+            await page.evaluate(f"views[1].shared.submit({edit}).then(() => 1)")
+            await page.until("views[0].shared.version === views[1].shared.version")
+            composed.append([await page.evaluate("views[0].find('textarea').value"), await page.evaluate("window.changes")])
+        await page.call("Input.imeSetComposition", text="東京", selectionStart=2, selectionEnd=2)
+        await page.call("Input.insertText", text="東京")
+        await page.evaluate("views[0].shared.whenNothingPending().then(() => 1)")
+        await page.until("views[0].shared.version === views[1].shared.version")
+        assert composed == [[f"{start[:3]}{it}{start[3:]}", 0] for it in ("t", "とう")]
+        shown = [await page.evaluate(f"views[{it}].find('textarea').value") for it in (0, 1)]
+        caret = await page.evaluate("views[0].find('textarea').selectionStart")
+        return start, shown, shown[0][:caret]
+
+    start, shown, before_caret = in_page(server, "composition", play)
+    assert shown == [f"left {start[:3]}東京{start[3]}right {start[4:]}"] * 2
+    assert before_caret == f"left {start[:3]}東京"
+
+
 def test_card_that_is_moved_and_edited(server):
     """A client edits a card's title while it is disconnected, and another one moves the card. Both edits stay."""
 
