@@ -13,6 +13,7 @@ import asyncio
 import functools
 import json
 import random
+import re
 import secrets
 import sys
 import time
@@ -21,11 +22,13 @@ import zlib
 import websockets
 
 MAX, LEFT, RIGHT = 9007199254740991, "left", "right"
-MOST_COMPONENTS, LONGEST_MESSAGE = 256, 1_048_576
+MOST_COMPONENTS, LONGEST_PATH, DEEPEST = 256, 50, 50
+LONGEST_MESSAGE, LONGEST_JOINED = 1_048_576, 65_536  # bytes of a message, and of one of joined operations
 FIRST_PAUSE, LONGEST_PAUSE = 1, 30  # seconds before an attempt to connect
 IDLE = 10  # seconds until a connection without documents is closed
 ABSENT = object()  # in place of a document that doesn't exist
 CREATED, DELETED, MISSING = "ERR_DOC_ALREADY_CREATED", "ERR_DOC_WAS_DELETED", "ERR_DOC_DOES_NOT_EXIST"
+SHAPES, BADLY_FORMED = ("na", "si", "sd", "li", "ld", "ldli", "oi", "od", "odoi"), "ERR_OT_OP_BADLY_FORMED"
 NOT_APPLIED, TOO_NEW, NO_MEMORY = "ERR_OT_OP_NOT_APPLIED", "ERR_OP_VERSION_NEWER_THAN_CURRENT_SNAPSHOT", "ERR_OUT_OF_MEMORY"
 RESTARTED, TOO_LONG = "the server was restarted", "the message is too long"
 
@@ -37,6 +40,45 @@ class Refused(Exception):
 def shape(c):
     """Returns na, si, sd, li, ld, ldli (an item is replaced), oi, od or odoi (a value is replaced)."""
     return "".join(it for it in ("na", "si", "sd", "ld", "li", "od", "oi") if it in c)
+
+
+def encoded(message):
+    return json.dumps(message, ensure_ascii=False)
+
+
+def size(message):
+    return len(encoded(message).encode())
+
+
+def is_text(it):
+    return isinstance(it, str) and not re.search("[\ud800-\udfff]", it)
+
+
+def is_number(it):
+    return type(it) is int and abs(it) <= MAX
+
+
+def is_value(it, depth=DEEPEST):
+    if not isinstance(it, (dict, list)):
+        return it is None or isinstance(it, bool) or is_text(it) or is_number(it)
+    items = it.values() if isinstance(it, dict) else it
+    return depth > 0 and all(map(is_text, it if isinstance(it, dict) else ())) and all(is_value(x, depth - 1) for x in items)
+
+
+def is_component(c):
+    if not isinstance(c, dict) or shape(c) not in SHAPES or not isinstance(c.get("p"), list) or len(c["p"]) > LONGEST_PATH:
+        return False
+    kind, values = shape(c), [it for name, it in c.items() if name in ("na", "si", "sd", "ld", "li", "od", "oi")]
+    fits = {"n": is_number, "s": is_text}.get(kind[0], is_value)
+    last_fits = kind == "na" or c["p"] and isinstance(c["p"][-1], str) == (kind[0] == "o")
+    return last_fits and all(map(fits, values)) and all(is_text(it) or is_number(it) and it >= 0 for it in c["p"])
+
+
+def checked(operation):
+    """Returns the operation, or raises Refused if the server would refuse its form."""
+    if not isinstance(operation, list) or len(operation) > MOST_COMPONENTS or not all(map(is_component, operation)):
+        raise Refused(BADLY_FORMED)
+    return operation
 
 
 def container(c):
@@ -93,7 +135,10 @@ def completed(document, operation):
         if removed:
             places, last = [], c["p"][-1]
             changed_at(document, container(c), places.append)
-            is_there = last in places[0] if removed == "od" else last < len(places[0])
+            fits = isinstance(places[0], dict if removed == "od" else list)
+            is_there = fits and (last in places[0] if removed == "od" else last < len(places[0]))
+            if not (is_there or fits and removed == "od"):
+                raise Refused(NOT_APPLIED)
             c = {name: it for name, it in c.items() if name != removed}
             c.update({removed: places[0][last]} if is_there else {})
         if shape(c):
@@ -228,10 +273,12 @@ class Document:
     def submit(self, operation):
         if self.shown is ABSENT:
             raise Refused(MISSING)
-        operation, shown = completed(self.shown, operation)
+        operation, shown = completed(self.shown, checked(operation))
         self.add({"op": operation}, shown)
 
     def create(self, data):
+        if not is_value(data):
+            raise Refused(BADLY_FORMED)
         content = {"create": {"type": "json0", "data": data}}
         self.add(content, apply_content(self.shown, content))
 
@@ -246,11 +293,17 @@ class Document:
     def add(self, content, shown):
         if not self.is_ready:
             raise Refused("the document isn't loaded")
+        if size(self.message(content, MAX, MAX)) > LONGEST_MESSAGE:
+            raise Refused(TOO_LONG)
         self.shown = shown
-        joined = self.queue.pop()["op"] if "op" in content and self.queue and "op" in self.queue[-1] else []
-        self.queue.append({"op": joined + content["op"]} if joined else content)
+        both = self.queue[-1:] + [content]
+        is_joined = len(both) == 2 and all("op" in it for it in both) and sum(map(size, both)) <= LONGEST_JOINED
+        self.queue[-1:] = [{"op": both[0]["op"] + both[1]["op"]}] if is_joined else both
         self.send_next()
         self.on_change(self)
+
+    def message(self, content, version, seq):
+        return {"a": "op", **self.place, "v": version, "src": self.client.source, "seq": seq, **content}
 
     def send_next(self):
         """Sends the queue's first content, of at most 256 components, if nothing is in flight."""
@@ -263,10 +316,9 @@ class Document:
             self.queue.insert(0, {"op": content["op"][MOST_COMPONENTS:]})
             content = {"op": content["op"][:MOST_COMPONENTS]}
         self.client.seq += 1  # of all documents: one that is opened again uses no number twice
-        name = {"v": self.version, "src": self.client.source, "seq": self.client.seq}
-        self.now, self.sent = content, {"a": "op", **self.place, **name, **content}
-        too_long = len(json.dumps(self.sent)) > LONGEST_MESSAGE
-        self.drop_all(TOO_LONG) if too_long else self.client.send(self.sent)
+        self.now, self.sent = content, self.message(content, self.version, self.client.seq)
+        # (an accepted content is too long only if the values that it removes have grown)
+        self.drop_all(TOO_LONG) if size(self.sent) > LONGEST_MESSAGE else self.client.send(self.sent)
 
     def drop_all(self, code):
         dropped = [it for it in (self.now, *self.queue) if it]
@@ -316,6 +368,10 @@ class Document:
         if has_content and version + 1 == self.version and not self.is_last_seen:
             self.is_last_seen, self.last = self.last in (None, name), name
         is_new = self.version is not None and version >= self.version
+        if self.sent and not self.now and name == (self.client.source, self.sent["seq"]):  # it is stored, against expectation
+            self.sent = None
+            if is_new and not has_content:
+                self.client.send({"a": "f", **self.place, "v": self.version})
         if is_new and self.now and name == (self.client.source, self.sent["seq"]):
             self.ack = version
         elif is_new and has_content:
@@ -373,7 +429,7 @@ class Client:
 
     def send(self, message):
         if self.outgoing:
-            self.outgoing.put_nowait(json.dumps(message))
+            self.outgoing.put_nowait(encoded(message))
 
     def reconnect(self):
         if self.socket and self.socket.transport:
@@ -395,20 +451,27 @@ class Client:
             await asyncio.sleep(pause * random.uniform(0.5, 1) if self.is_open else 0)
 
     async def serve(self):
-        if json.loads(await self.socket.recv())["protocol"] != 1:
-            raise SystemExit("the server has another protocol")
+        greeting = json.loads(await self.socket.recv())
+        if not isinstance(greeting, dict) or greeting.get("protocol") != 1:
+            raise RuntimeError("the other end is no server with protocol 1")
         self.outgoing = asyncio.Queue()
         self.send({"a": "hs", "id": self.source})
         for document in self.documents.values():
             document.connected()
-        writer = asyncio.create_task(self.write())
+        tasks = [asyncio.create_task(it) for it in (self.read(), self.write())]
         try:
-            async for text in self.socket:
-                message = json.loads(text)
-                if message["a"] != "u" and (message.get("c"), message.get("d")) in self.documents:
-                    self.documents[message["c"], message["d"]].receive(message)
+            done, _ = await asyncio.wait(tasks, return_when=asyncio.FIRST_COMPLETED)
+            for task in done:
+                task.result()  # or its exception
         finally:
-            writer.cancel()
+            for task in tasks:
+                task.cancel()
+
+    async def read(self):
+        async for text in self.socket:
+            message = json.loads(text)
+            if message["a"] != "u" and (message.get("c"), message.get("d")) in self.documents:
+                self.documents[message["c"], message["d"]].receive(message)
 
     async def write(self):
         while True:

@@ -79,6 +79,135 @@ def test_the_bucket_of_a_document_is_the_checksum_of_its_id():
     assert documents[0].client is documents[1].client and len({it.client.source for it in documents}) == 1
 
 
+# Edits that are checked, and exceptions -------------------------------------------------------------------------------
+
+
+class Outgoing(list):
+    put_nowait = list.append
+
+    def __bool__(self):
+        return True
+
+
+def loaded(data):
+    """Returns a document that is loaded at version 2, and what its client drops. No connection is needed."""
+    client, dropped = second.Client("ws://none", "me"), []
+    client.outgoing = Outgoing()
+    document = client.document("b", "1", on_dropped=lambda it, contents, code: dropped.append((contents, code)))
+    document.receive({"a": "s", **document.place, "data": {"v": 2, "data": data}})
+    document.receive({"a": "op", **document.place, "v": 1, "src": "other", "seq": 1, "op": []})
+    document.receive({"a": "f", **document.place})
+    assert document.is_ready
+    del client.outgoing[:]
+    return document, dropped
+
+
+def acknowledge(document, version):
+    document.receive({"a": "op", **document.place, "v": version, "src": "me", "seq": document.sent["seq"]})
+
+
+def test_text_beyond_ascii_counts_its_bytes():
+    document, dropped = loaded({"n": 1, "t": ""})
+    document.submit([{"p": ["n"], "na": 1}])
+    for inserted in ("é" * 180_000, "é" * 500_000, "x" * 1_000):
+        document.submit([{"p": ["t", 0], "si": inserted}])
+    document.submit([{"p": ["n"], "na": 5}])
+    with pytest.raises(second.Refused):
+        document.submit([{"p": ["t", 0], "si": "é" * 524_288}])
+    version = 2
+    while document.sent:
+        assert len(document.client.outgoing[-1].encode()) <= second.LONGEST_MESSAGE
+        acknowledge(document, version)
+        version += 1
+    assert not dropped and len(document.client.outgoing) == 4
+    assert document.stored == document.shown == {"n": 7, "t": "x" * 1_000 + "é" * 680_000}
+
+
+def test_short_edits_are_joined():
+    document, _ = loaded({"t": ""})
+    for _ in range(300):
+        document.submit([{"p": ["t", 0], "si": "é"}])
+    assert len(document.queue) == 1
+    acknowledge(document, 2)
+    assert len(json.loads(document.client.outgoing[-1])["op"]) == 256
+    acknowledge(document, 3)
+    acknowledge(document, 4)
+    assert document.stored == {"t": "é" * 300} and not document.sent
+
+
+@pytest.mark.parametrize(
+    "operation",
+    [
+        [{"p": ["n", "k"], "oi": 1}],
+        [{"p": ["t", "k"], "oi": 1}],
+        [{"p": ["n", 0], "ld": 1}],
+        [{"p": ["l", 1], "ld": None}],
+        [{"p": ["o", "k"], "zz": 1}],
+        [{"p": ["o", "k"], "oi": 1.5}],
+        [{"p": ["o", "k"], "oi": {1: 2}}],
+        [{"p": ["o", "k"], "oi": second.MAX + 1}],
+        [{"p": ["o", "k"], "oi": ["\ud83d"]}],
+        [{"p": ["o", 1], "oi": 1}],
+        [{"p": ["o"] * 51, "oi": 1}],
+        [{"p": [], "oi": 1}],
+        [{"p": ["t", -1], "si": "x"}],
+        [{"p": ["t", True], "si": "x"}],
+        [{"p": ["t", 0], "si": 1}],
+        [{"p": ["t", 0], "si": "x", "sd": ""}],
+        [{"p": ["t", 1], "si": "x"}],
+        [{"p": ["n"], "na": True}],
+        [{"p": ["n"], "na": second.MAX}],
+        [{"p": "n", "na": 1}],
+        [{"oi": 1}],
+        [None],
+        [{"p": ["n"], "na": 1}] * 257,
+        None,
+    ],
+)
+def test_wrong_edit_is_refused_before_it_is_shown(operation):
+    document, dropped = loaded({"n": 1, "t": "", "o": {}, "l": [1]})
+    with pytest.raises(second.Refused):
+        document.submit(operation)
+    assert document.shown is document.stored and not document.queue and not dropped
+    assert list(document.client.outgoing) == []
+
+
+def test_refusal_that_is_expected_and_an_acknowledgement():
+    """The client expects that a sum is refused, and the server has stored the submission as a duplicate."""
+    document, dropped = loaded({"n": second.MAX - 1})
+    document.submit([{"p": ["n"], "na": 1}])
+    document.receive({"a": "op", **document.place, "v": 2, "src": "other", "seq": 2, "op": [{"p": ["n"], "na": 1}]})
+    assert len(dropped) == 1 and document.sent and not document.now
+    document.receive({"a": "op", **document.place, "v": 3, "src": "me", "seq": 1})
+    assert json.loads(document.client.outgoing[-1]) == {"a": "f", **document.place, "v": 3}
+    document.receive({"a": "op", **document.place, "v": 3, "src": "me", "seq": 1, "op": []})
+    document.receive({"a": "f", **document.place})
+    document.submit([{"p": ["n"], "na": -1}])
+    assert json.loads(document.client.outgoing[-1])["v"] == 4
+    acknowledge(document, 4)
+    assert document.stored == {"n": second.MAX - 1} and not document.sent
+
+
+@pytest.mark.parametrize("greeting", ['{"a":"init","id":"s1","protocol":1}', "[1]", '{"a":"init"}'])
+def test_exception_of_a_connection_ends_the_run(greeting):
+    async def serve(socket):
+        await socket.send(greeting)
+        await socket.wait_closed()
+
+    async def play():
+        async with second.websockets.serve(serve, "127.0.0.1", 0) as server:
+            client = second.Client(f"ws://127.0.0.1:{server.sockets[0].getsockname()[1]}")
+            task = asyncio.create_task(client.run())
+            while not client.outgoing and not task.done():
+                await asyncio.sleep(0.01)
+            if client.outgoing:
+                client.outgoing.put_nowait(0)  # no socket can send it
+            await task
+
+    with pytest.raises(TypeError if "protocol" in greeting else RuntimeError):
+        asyncio.run(asyncio.wait_for(play(), 20))
+
+
 # The server's transform -----------------------------------------------------------------------------------------------
 
 PAIRS = 400
@@ -322,4 +451,4 @@ def test_closed_documents(server, monkeypatch):
 
 def test_length():
     source = pathlib.Path(second.__file__).read_text()
-    assert len(source.splitlines()) <= 460  # of which 38 are those of a cluster, and 18 close documents
+    assert len(source.splitlines()) <= 525  # of which 60 check edits, 38 are those of a cluster, and 18 close documents
