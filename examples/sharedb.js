@@ -10,6 +10,8 @@
  * - `hs` names a random source, instead of the session's number, which another session has after a restart.
  * - `pp` becomes `hs`, whose answer becomes that of `pp`.
  *
+ * The socket may be one that connects again by itself, as that of reconnecting-websocket.
+ *
  * The profile's limits stay: json0 without `lm` and subtypes, whole numbers, no queries and no presence. After a
  * restart of the server, ShareDB's client doesn't detect that all documents are lost: reload the page.
  */
@@ -31,7 +33,7 @@ export class ShareSocket {
     this.requests = []; // of fetches and subscriptions that aren't answered, in order: null, or the bulk request
     this.hellos = []; // of `hs` that aren't answered: the message that it replaces
     socket.onopen = (event) => this.tell('onopen', event);
-    socket.onclose = (event) => this.tell('onclose', event);
+    socket.onclose = (event) => this.lose(event);
     socket.onerror = (event) => this.tell('onerror', event);
     socket.onmessage = ({ data }) => this.receive(JSON.parse(data));
   }
@@ -46,6 +48,13 @@ export class ShareSocket {
 
   tell(listener, event) {
     if (this[listener]) this[listener](event);
+  }
+
+  // A socket may connect again by itself. Nothing that was sent before is answered then.
+  lose(event) {
+    this.requests = [];
+    this.hellos = [];
+    this.tell('onclose', event);
   }
 
   pass(message) {

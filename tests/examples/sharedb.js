@@ -12,10 +12,46 @@ import { ShareSocket } from '../../examples/sharedb.js';
 const WebSocket = createRequire(import.meta.url)('/usr/share/nodejs/ws'); // where Debian installs it
 const address = process.argv[2];
 
+/** A socket that connects again by itself, as the package's documents recommend (reconnecting-websocket). */
+class Reconnecting {
+  constructor() {
+    this.isWanted = true;
+    this.open();
+  }
+
+  open() {
+    this.socket = new WebSocket(address);
+    this.socket.onopen = (event) => this.onopen(event);
+    this.socket.onmessage = (event) => this.onmessage(event);
+    this.socket.onerror = () => {};
+    this.socket.onclose = (event) => {
+      this.onclose(event);
+      if (this.isWanted) this.open();
+    };
+  }
+
+  get readyState() {
+    return this.socket.readyState;
+  }
+
+  send(text) {
+    this.socket.send(text);
+  }
+
+  close() {
+    this.isWanted = false;
+    this.socket.close();
+  }
+
+  lose() {
+    this.socket.terminate();
+  }
+}
+
 /** A connection that keeps the messages it receives. */
 class Connection {
-  constructor() {
-    this.socket = new ShareSocket(new WebSocket(address));
+  constructor(socket = new WebSocket(address)) {
+    this.socket = new ShareSocket(socket);
     this.id = null;
     this.seq = 1;
     this.received = [];
@@ -112,7 +148,22 @@ async function main() {
   assert.equal(again.id, ben.id);
   again.send({ a: 'op', c: 'books', d: '1', v: 2, seq: 2, src: ben.id, op: [{ p: ['n'], na: 1 }] });
   assert.deepEqual(await again.next(named('op')), { a: 'op', c: 'books', d: '1', seq: 2, src: ben.id, v: 2 });
-  for (const { socket } of [ada, ben, again]) socket.close();
+
+  // a socket that connects again by itself: requests of the lost connection get no answer, those of the next one do
+  const raw = new Reconnecting();
+  const carol = new Connection(raw);
+  await carol.next(named('hs'));
+  for (const lost of [{ a: 'bs', c: 'books', b: ['1', '2'] }, { a: 'pp' }, { a: 'f', c: 'books', d: '1', v: null }]) {
+    carol.send(lost);
+    raw.lose();
+    carol.received = [];
+    assert.equal((await carol.next(named('hs'))).id, carol.id);
+    carol.send({ a: 'pp' });
+    carol.send({ a: 'bs', c: 'books', b: { 1: 3, 2: 1 } });
+    await carol.next(named('bs'));
+    assert.deepEqual(kinds(carol.received), ['pp']);
+  }
+  for (const { socket } of [ada, ben, again, carol]) socket.close();
   console.log('sharedb: all answers are as expected');
 }
 
