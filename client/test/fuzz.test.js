@@ -139,6 +139,78 @@ test('random clients hold the server\'s document', OPTIONS, async () => {
   }
 });
 
+// Returns a submitter of edits to the document, and what became of each.
+function editorOf({ pick }, doc) {
+  const outcomes = [];
+  const submit = (isLate) => {
+    if (doc.version === null || doc.data === undefined) return;
+    const outcome = { isLate, version: undefined, code: undefined };
+    outcomes.push(outcome);
+    const edit = doc.submit([{ p: ['t', 0], si: pick(['a', 'b', 'c']) }, { p: ['n'], na: 1 }]);
+    edit.then(({ version }) => (outcome.version = version), ({ code }) => (outcome.code = code));
+  };
+  doc.subscribe().catch(() => {});
+  return { outcomes, submit };
+}
+
+// Delivers a message, cuts a connection or moves the clock.
+function shake({ random, pick }, net) {
+  const link = net.links.length > 0 ? pick(net.links) : null;
+  const kind = random(7);
+  if (kind === 0) net.clock.advance(1);
+  else if (kind === 1) net.deliverLate();
+  else if (kind === 2 && link && random(4) === 0) net.cut(link, random(2) === 0);
+  else if (link && random(2)) net.up(link);
+  else if (link) net.down(link);
+}
+
+async function deliverAll(net) {
+  for (let round = 0; round < 4; round += 1) {
+    net.deliverLate();
+    await net.settle();
+  }
+}
+
+// Edits until the document is destroyed, and while it is. Returns what became of each edit.
+async function editAndDestroy(chosen, net, { doc }, other) {
+  const { random } = chosen;
+  const one = editorOf(chosen, doc);
+  const start = 20 + random(40);
+  let left = null;
+  for (let made = 0; made < 60; made += 1) {
+    if (made === start) left = doc.destroy();
+    const kind = random(10);
+    if (kind < 3) one.submit(left !== null);
+    else if (kind === 3) other.doc.submit([{ p: ['t', 0], si: 'x' }]);
+    else shake(chosen, net);
+    if (random(3) === 0) await flush();
+  }
+  await deliverAll(net);
+  await left;
+  return one.outcomes;
+}
+
+test('edits around destroy: each is stored and fulfilled, or refused and not stored', OPTIONS, async () => {
+  const seed = seedOf('destroy');
+  for (let run = 0; run < RUNS * 4; run += 1) {
+    const net = new Net();
+    const [first, other] = [net.client('first'), net.client('other')];
+    other.doc.subscribe().catch(() => {});
+    net.deliver();
+    other.doc.create({ t: '', n: 0 });
+    await net.settle();
+    const outcomes = await editAndDestroy(choices(seed + run), net, first, other);
+    const { log, data } = net.stored;
+    const details = `SEED=${seed + run} RUNS=1`;
+    const own = log.filter(({ src }) => src === 'first').map(({ v }) => v);
+    const told = new Set(outcomes.map(({ version }) => version).filter(Number.isInteger));
+    assert.deepStrictEqual([...told].sort((one, another) => one - another), own, details);
+    assert.ok(outcomes.every(({ isLate, code }) => (isLate ? code === 'ERR_CLOSED' : code === undefined)), details);
+    assert.strictEqual(data[log.length].n, outcomes.filter(({ isLate }) => !isLate).length, details);
+    assert.deepStrictEqual([first.doc.state, other.doc.data], ['closed', data[log.length]], details);
+  }
+});
+
 test('all own edits are undone: what others did stays', OPTIONS, async () => {
   const seed = seedOf('undo');
   for (let run = 0; run < RUNS; run += 1) {

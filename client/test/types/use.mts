@@ -28,6 +28,7 @@ client.on('states', () => undefined);
 
 const cluster: Cluster = new Cluster('ws://127.0.0.1:8080', 16, { ...options, idleDelay: 10 });
 new Cluster((bucket) => `ws://127.0.0.1:8080/b/${bucket.toFixed()}`, 16);
+new Cluster(async (bucket) => `ws://127.0.0.1:8080/b/${bucket.toFixed()}`, 16);
 cluster.on('state', ({ bucket, state }) => [bucket.toFixed(), state === 'failed']);
 cluster.on('close', ({ bucket, code, reason, text }) => [bucket.toFixed(), code.toFixed(), reason === 'full', text.length]);
 cluster.on('error', ({ bucket, error }) => [bucket.toFixed(), error.code === 'ERR_PROTOCOL']);
