@@ -172,10 +172,11 @@ def test_slider_counts_versions(server):
         await page.evaluate(
             "(() => { const it = document.querySelector('#version'); it.value = 2; it.dispatchEvent(new Event('input')); })()"
         )
-        await page.until("document.querySelector('.then').textContent.startsWith('-Two')")
-        return await page.evaluate("document.querySelector('.life output').textContent")
+        # (an earlier answer may show version 2 of 2)
+        await page.until("document.querySelector('.life output').textContent === 'version 2 of 5'")
+        return await page.evaluate("document.querySelector('.then').textContent")
 
-    assert in_page(server, "slider", play) == "version 2 of 5"
+    assert in_page(server, "slider", play).startswith("-Two")
 
 
 @pytest.mark.skipif(not shutil.which("openssl"), reason="needs openssl")
