@@ -6,7 +6,7 @@
     asyncio.create_task(client.run())
     board.submit([{"p": ["votes"], "na": 1}])
 
-As a program, examples/client.py ws://127.0.0.1:8080 COLLECTION ID [BUCKETS], it prints a document at each change. BUCKETS is the
+As a program, examples/client.py HOST:PORT|URL COLLECTION ID [BUCKETS], it prints a document at each change. BUCKETS is the
 number of servers that share the documents (docs/SCALING.md).
 """
 import asyncio
@@ -516,6 +516,7 @@ class Cluster:
 
 
 if __name__ == "__main__":
-    program = Cluster(sys.argv[1], int(sys.argv[4])) if sys.argv[4:] else Client(sys.argv[1])
+    address = sys.argv[1] if "://" in sys.argv[1] else f"ws://{sys.argv[1]}"
+    program = Cluster(address, int(sys.argv[4])) if sys.argv[4:] else Client(address)
     program.document(*sys.argv[2:4], lambda it: print(it.version, "-" if it.shown is ABSENT else json.dumps(it.shown), flush=True))
     asyncio.run(program.run())
