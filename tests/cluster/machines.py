@@ -235,7 +235,7 @@ class Machines:
         (self.folder / "site.conf").write_text(site)
         if self.has_tls:
             self.write_secrets()
-        (self.folder / "map").write_text("")
+        shutil.copy(DEPLOY / "cluster" / "navirotsohy.map", self.folder / "map")
         paths = "\n".join(f"    {it}_temp_path {self.folder}/{it};" for it in PATHS)
         user = "user root;\n" if os.geteuid() == 0 else ""
         (self.folder / "nginx.conf").write_text(MAIN.format(paths=paths, user=user, **names))
