@@ -10,9 +10,11 @@ import re
 import shutil
 import subprocess
 import sys
+import tarfile
 import time
 
 from machines import DEPLOY, ip
+from support.archive import make_archive
 from support.server import UNPROVED
 
 ROOT = os.environ.get("SYSTEMD_ROOT")
@@ -36,7 +38,7 @@ exec nsenter -m -u -i -n -p -C -r -w -t $(cat /proc/$parent/task/$parent/childre
 
 
 class Containers:
-    """Two containers with the unit of a bucket's server, and the script `buckets` with its own settings."""
+    """Two containers with the archive of the program and the units in it, and the script `buckets` with its own settings."""
 
     def __init__(self, folder, program):
         self.folder, self.program, self.running = folder, program, {}
@@ -45,6 +47,7 @@ class Containers:
         self.stranger = self.front.replace("10.214", "10.215")  # an address that the unit doesn't allow
         (folder / "enter").write_text(ENTER.format(folder=folder))
         (folder / "enter").chmod(0o755)
+        self.archive, self.is_unproved = make_archive(program, folder / "archive"), program == str(UNPROVED)
         self.write_settings()
 
     def write_settings(self):
@@ -91,18 +94,23 @@ class Containers:
             part.mkdir(parents=True)
         layers = f"lowerdir={ROOT},upperdir={upper},workdir={place}/work"
         subprocess.run(["mount", "-t", "overlay", "overlay", "-o", layers, merged], check=True)
-        unit = (DEPLOY / "cluster" / "navirotsohy@.service").read_text()
+        with tarfile.open(self.archive) as tar:
+            tar.extractall(merged / "root")
+        (place_of_archive,) = (merged / "root").glob("navirotsohy-*")
+        place_of_archive.rename(merged / "root" / "archive")
+        cluster = merged / "root" / "archive" / "cluster"
+        unit = (cluster / "navirotsohy@.service").read_text()
         assert unit.count("10.0.0.0/24") == 1
         files = {"etc/systemd/system/navirotsohy@.service": unit.replace("10.0.0.0/24", f"{self.front}/24")}
         files["etc/navirotsohy/machine"] = f"ADDRESS={machine}\n"
         files["etc/systemd/network/10-host0.network"] = NETWORK.format(machine=machine, other=machine.replace("10.214", "10.215"))
-        if self.program == str(UNPROVED):  # which can't start with a limit of data
-            files["etc/systemd/system/navirotsohy@.service.d/data.conf"] = "[Service]\nLimitDATA=infinity\n"
         for name, content in files.items():
             (merged / name).parent.mkdir(parents=True, exist_ok=True)
             (merged / name).write_text(content)
-        for source, name in ((self.program, "sdb_server"), (DEPLOY / "stoppable", "stoppable")):
-            shutil.copy(source, merged / "usr/local/bin" / name)
+        for drop_in in cluster.glob("*.service.d"):  # of an unproved program
+            shutil.copytree(drop_in, merged / "etc/systemd/system" / drop_in.name)
+        for name in ("sdb_server", "stoppable"):
+            shutil.copy(merged / "root" / "archive" / name, merged / "usr/local/bin")
         enable = ["systemctl", f"--root={merged}", "enable", "systemd-networkd", "systemd-networkd-wait-online"]
         subprocess.run(enable, check=True, capture_output=True)
 
