@@ -1,4 +1,5 @@
 """Reads the record of recorder.c: the events of a run, and what the server has sent until each of them."""
+import collections
 import dataclasses
 import json
 import pathlib
@@ -44,12 +45,19 @@ def read_events(path):
 
 @dataclasses.dataclass(frozen=True)
 class Fact:
-    """What a client was sent: an entry, a length of a log, or the number of a session."""
+    """What a client was sent: an acknowledgement or the content of an entry, a length of a log, or the number of a session."""
 
     kind: str
     document: str = ""
     version: int = 0
     entry: tuple = ()
+    content: str = ""
+
+
+def content_of(message):
+    """Returns the content of an operation as a text, or an empty text."""
+    found = {name: message[name] for name in ("create", "op", "del") if name in message}
+    return json.dumps(found, sort_keys=True) if found else ""
 
 
 def sent_facts(events):
@@ -68,9 +76,44 @@ def facts_of(message):
     if message.get("a") == "init":
         yield Fact("number", version=int(message["id"][1:]))
     elif message.get("a") == "op" and "error" not in message and "v" in message and "src" in message:
-        yield Fact("entry", message["d"], message["v"], (message["src"], message["seq"]))
+        content = content_of(message)
+        kind = "push" if content else "acknowledgement"
+        yield Fact(kind, message["d"], message["v"], (message["src"], message["seq"]), content)
     elif message.get("a") in ("f", "s") and isinstance(message.get("data"), dict) and "v" in message["data"]:
         yield Fact("length", message["d"], message["data"]["v"])
+
+
+class Logs:
+    """The log of each document as (source, seq, content), and the highest number that may be given."""
+
+    def __init__(self):
+        self.entries, self.highest = {}, 0
+
+    def add(self, entry):
+        self.entries.setdefault(entry["d"], []).append((entry["src"], entry["seq"], content_of(entry)))
+
+    def duplicates(self):
+        counts = collections.Counter((document, *it[:2]) for document, log in self.entries.items() for it in log)
+        return [f"{it} is stored {count} times" for it, count in counts.items() if count > 1]
+
+    def lost(self, facts):
+        """Returns what was sent, and isn't in the logs at its version."""
+        lost = []
+        for fact in facts:
+            log = self.entries.get(fact.document, [])
+            if fact.kind == "number" and self.highest < fact.version:
+                lost.append(f"{fact} may be given again")
+            elif fact.kind == "length" and len(log) < fact.version:
+                lost.append(f"lost {fact}")
+            elif fact.kind in ("acknowledgement", "push"):
+                lost += self.lost_entry(log, fact)
+        return lost
+
+    def lost_entry(self, log, fact):
+        if not any(it[:2] == fact.entry for it in log[fact.version : fact.version + 1]):
+            versions = [version for version, it in enumerate(log) if it[:2] == fact.entry]
+            return [f"at another version {fact}, {versions}" if versions else f"lost {fact}"]
+        return [f"another content {fact}"] if fact.content and log[fact.version][2] != fact.content else []
 
 
 class Stream:

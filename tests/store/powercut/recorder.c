@@ -143,8 +143,12 @@ static int sync_file(int fd, const char *name) {
     enum file file = file_of(fd);
     if (file != STORE_FILE && file != FOLDER) return real(fd);
     if (slow_sync) usleep(slow_sync);
-    if (file == STORE_FILE && fail_sync && __atomic_add_fetch(&syncs, 1, __ATOMIC_SEQ_CST) == fail_sync) { errno = EIO; return -1; }
     uint64_t begin_no = next();
+    if (file == STORE_FILE && fail_sync && __atomic_add_fetch(&syncs, 1, __ATOMIC_SEQ_CST) == fail_sync) {
+        put(SYNC, fd, begin_no, 0, -1, 0, 0);
+        errno = EIO;
+        return -1;
+    }
     int result = real(fd);
     put(file == STORE_FILE ? SYNC : SYNC_FOLDER, fd, begin_no, 0, result, 0, 0);
     return result;
