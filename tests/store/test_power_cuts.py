@@ -104,26 +104,28 @@ class Recording:
         return cuts
 
     def try_states(self, count, seed, ignored=0, read_by_program=0, starts=0, starts_of_new=STARTS):
-        """Makes about so many states, and returns what is wrong with each, and how many there were. The program opens every Nth
+        """Makes at least so many states, and returns what is wrong with each, and how many there were. The program opens every Nth
         one, and of every Nth one a start is cut too. It starts with every Nth one in which nothing was sent yet."""
         chance, wrong, tried = random.Random(seed), [], 0
-        for cut, files in self.states(self.cuts(count // 3, chance), ignored):
-            facts = [fact for number, fact in self.facts if number < cut]
-            modes = ["none"]
-            if any(file.pending for file in files.values()):
-                modes += ["mixed", "mixed again", chance.choice(["prefix", "without the last", "all"])]
-            for mode in modes:
-                tried += 1
-                store = self.store_of(files, mode, chance)
-                if starts and tried % starts == 0 and store.exists():
-                    wrong += [f"cut {cut}, {mode}, then a start: {it}" for it in self.cut_start(store, facts, chance)]
-                found = self.faults_of(store, facts)
-                if not found and not facts and starts_of_new and tried % starts_of_new == 0:
-                    found = self.faults_of_start(store)
-                elif not found and facts and read_by_program and tried % read_by_program == 0:
-                    found = self.faults_of_program(store, facts)
-                wrong += [f"cut {cut}, {mode}: {it}" for it in found]
-                shutil.rmtree(store.parent)
+        while tried < count:
+            for cut, files in self.states(self.cuts(count // 3, chance), ignored):
+                facts = [fact for number, fact in self.facts if number < cut]
+                modes = ["none"]
+                if any(file.pending for file in files.values()):
+                    modes += ["mixed", "mixed again", chance.choice(["prefix", "without the last", "all"])]
+                for mode in modes:
+                    tried += 1
+                    store = self.store_of(files, mode, chance)
+                    wrong_start = []
+                    if starts and tried % starts == 0 and store.exists():
+                        wrong_start = [f"then a start: {it}" for it in self.cut_start(store, facts, chance)]
+                    found = self.faults_of(store, facts)
+                    if not found and not facts and starts_of_new and tried % starts_of_new == 0:
+                        found = self.faults_of_start(store)
+                    elif not found and facts and read_by_program and tried % read_by_program == 0:
+                        found = self.faults_of_program(store, facts)
+                    wrong += [f"cut {cut}, {mode}: {it}" for it in found + wrong_start]
+                    shutil.rmtree(store.parent)
         return wrong, tried
 
     def faults_of(self, store, facts):
@@ -224,13 +226,13 @@ def check(recording, count, seed, **options):
 
 def test_states_after_a_kill(program, recorder, folder, seed):
     check(
-        Recording(program, recorder, folder, seed, 4, 12), 150, seed, read_by_program=50, starts=100, starts_of_new=FEW_STARTS // 2
+        Recording(program, recorder, folder, seed, 4, 12), 150, seed, read_by_program=75, starts=100, starts_of_new=FEW_STARTS // 2
     )
 
 
 def test_states_with_slow_syncs_and_a_graceful_end(program, recorder, folder, seed):
     recording = Recording(program, recorder, folder, seed, 4, 12, kill=False, slow_sync=20_000)
-    check(recording, 150, seed, read_by_program=50, starts_of_new=FEW_STARTS)
+    check(recording, 150, seed, read_by_program=75, starts_of_new=FEW_STARTS)
 
 
 def test_states_with_failing_writes(program, recorder, folder, seed):
@@ -275,7 +277,7 @@ def test_a_thousand_states(program, recorder, folder, seed, number):
         {"fail_sync": 90},
     ]
     recording = Recording(program, recorder, folder, f"{seed}-{number}", 40, 24, **faults[number])
-    check(recording, 1_000, seed, read_by_program=20, starts=100)
+    check(recording, 1_000, seed, read_by_program=40, starts=100)
     if "fail_sync" in faults[number]:
         check_that_a_failed_sync_is_the_last_call(recording)
 
