@@ -1,11 +1,13 @@
 /* Preloaded: a disk whose calls fail or hang. Only calls of the store's files count, whose paths begin with STORE.
 
    FAIL=KIND:FIRST:COUNT:ERROR,..   COUNT calls of a kind (write, truncate or sync) fail, from the FIRST one on, with this number
+   FAILED=FILE                      gets a byte for each call that failed
    FULL=FILE                        while FILE exists, each write fails with ENOSPC
    HANG=FILE                        while FILE exists, no sync returns */
 #define _GNU_SOURCE
 #include <dlfcn.h>
 #include <errno.h>
+#include <fcntl.h>
 #include <stdio.h>
 #include <stdlib.h>
 #include <string.h>
@@ -32,17 +34,26 @@ static int exists(const char *variable) {
     return path && access(path, F_OK) == 0;
 }
 
+/* Returns the number of an error, which is noted. */
+static int noted(int error) {
+    const char *path = getenv("FAILED");
+    int fd = path ? open(path, O_WRONLY | O_CREAT | O_APPEND, 0600) : -1;
+    if (fd >= 0 && write(fd, "x", 1) != 1) abort();
+    if (fd >= 0) close(fd);
+    return error;
+}
+
 /* Returns the number of the error of this call, or 0. */
 static int error_of(int kind, int fd) {
     if (!is_store(fd)) return 0;
     long number = __atomic_add_fetch(&calls[kind], 1, __ATOMIC_SEQ_CST), first, count;
     while (kind == SYNC && exists("HANG")) usleep(20000);
-    if (kind == WRITE && exists("FULL")) return ENOSPC;
+    if (kind == WRITE && exists("FULL")) return noted(ENOSPC);
     for (const char *at = getenv("FAIL"); at && *at; at = strchr(at, ',') ? strchr(at, ',') + 1 : "") {
         char name[16];
         int error;
         if (sscanf(at, "%15[a-z]:%ld:%ld:%d", name, &first, &count, &error) != 4) abort();
-        if (!strcmp(name, kinds[kind]) && number >= first && number < first + count) return error;
+        if (!strcmp(name, kinds[kind]) && number >= first && number < first + count) return noted(error);
     }
     return 0;
 }

@@ -44,8 +44,9 @@ class Disk(Server):
     """A server over such a disk. Its store is in a folder, with files whose presence fills or hangs the disk."""
 
     def __init__(self, program, disk, folder, *options, **settings):
-        self.store, self.full, self.hang = folder / "store", folder / "full", folder / "hang"
+        self.store, self.full, self.hang, self.failed = (folder / name for name in ("store", "full", "hang", "failed"))
         variables = {"LD_PRELOAD": disk, "STORE": str(self.store), "FULL": str(self.full), "HANG": str(self.hang)}
+        variables["FAILED"] = str(self.failed)
         super().__init__(program, "--until-eof", "--store", str(self.store), *options, environment={**variables, **settings})
 
     def health(self):
@@ -85,6 +86,7 @@ def test_failing_calls(program, disk, tmp_path, calls, status):
         assert server.process.wait(timeout=2 * END) == status
         errors = server.process.stderr.read()
         assert (errors.splitlines()[-1].startswith("store: ")) == (status == 1), errors
+    assert server.failed.stat().st_size == sum(int(call.split(":")[2]) for call in calls.split(","))
     if "sync" not in calls:
         assert len(acknowledged) == EDITORS * EDITS
     logs = logs_of(program, str(tmp_path / "store"))
@@ -167,6 +169,7 @@ def test_the_end_of_a_disk_that_is_full_for_a_moment(program, disk, tmp_path):
         server.full.unlink()
         held.socket.settimeout(END)
         assert held.message()["v"] == 1
+        assert server.failed.stat().st_size > 0
         server.process.stdin.close()
         assert held.status(LATE) == 1001
         assert server.process.wait(timeout=END) == 0
