@@ -121,8 +121,10 @@ fn modes_of_a_store_are_parsed(rt: HostRuntime) {
         ("sdb_server --dump --store f", Some(RunMode::Dump)),
         ("sdb_server --store f --load", Some(RunMode::Load)),
         ("sdb_server --store f --recover g", Some(RunMode::Recover)),
+        ("sdb_server --store f --backup g", Some(RunMode::Backup)),
         ("sdb_server --load", None),
         ("sdb_server --recover g", None),
+        ("sdb_server --backup g", None),
         ("sdb_server --check --recover g --store f", None),
         ("sdb_server --check --load --store f", None),
         (

@@ -8,8 +8,9 @@ use crate::clients::{Client, FIRST_INIT, connect_websocket, expect_close, expect
 use crate::connections::{CREATE, CREATED, SECOND_INIT, SUBSCRIBE, SUBSCRIBED};
 use sdb_backend::Backend;
 use sdb_event_loop::{LoopOptions, LoopServer, listen_on_loops};
-use sdb_link::{Deadlines, DueAction, SessionEnd};
-use sdb_progress::SaveProgress;
+use sdb_link::{Deadlines, DueAction, LoopTime, SessionEnd};
+use sdb_loop_state::LargeTurns;
+use sdb_progress::{Histogram, RoundFailure, SaveOutage, SaveProgress, SaveRecord};
 use sdb_projection::Table;
 use std::alloc::{AllocError, Global};
 use std::net::{Net, SocketAddr, TcpListener, TcpStream};
@@ -209,7 +210,12 @@ fn a_stop_closes_clients_while_the_disk_hangs(rt: HostRuntime) -> Result<(), Fai
 #[test]
 fn a_hold_lasts_at_most_half_a_minute(rt: HostRuntime) {
     let mut deadlines = Deadlines::new(5);
-    deadlines.begin_hold(10);
+    let mut time = LoopTime {
+        second: 10,
+        millis: 10_400,
+        moment_millis: 0,
+    };
+    deadlines.begin_hold(time);
     assert!(rt; matches!(deadlines.next_action(39, true), DueAction::Nothing));
     assert!(rt;
         matches!(
@@ -217,4 +223,50 @@ fn a_hold_lasts_at_most_half_a_minute(rt: HostRuntime) {
             DueAction::End(SessionEnd::Unsaved)
         )
     );
+    time.second = 12;
+    time.millis = 12_150;
+    assert_eq!(rt; deadlines.end_hold(time), 1_750);
+    assert!(rt; matches!(deadlines.next_action(40, false), DueAction::Nothing));
+}
+
+#[test]
+fn a_record_has_the_begin_of_an_outage(rt: HostRuntime) {
+    let record = SaveRecord::new();
+    assert!(rt; record.add_failure(RoundFailure::DiskFull, 100));
+    assert!(rt; !record.add_failure(RoundFailure::DiskFailed, 103));
+    let outage = SaveOutage {
+        failure: RoundFailure::DiskFailed,
+        since: 100,
+    };
+    assert!(rt; record.load().outage == Some(outage));
+    assert!(rt; record.end_outage() == Some(outage));
+    assert!(rt; record.end_outage().is_none());
+    assert_eq!(rt; record.load().failures, 2);
+}
+
+#[test]
+fn a_histogram_counts_by_its_bounds(rt: HostRuntime) {
+    let histogram = Histogram::new([1, 2, 4, 8, 16, 32, 64, 128, 256, 512, 1_024, 4_096]);
+    for number in [0, 1, 2, 3, 4, 4_096, 4_097] {
+        histogram.add(number);
+    }
+    let counts = histogram.load();
+    assert!(rt; counts.counts == [2, 1, 2, 0, 0, 0, 0, 0, 0, 0, 0, 1]);
+    assert_eq!(rt; counts.above, 1);
+    assert_eq!(rt; counts.sum, 8_203);
+}
+
+#[test]
+fn a_place_of_a_large_turn_is_given_to_another_after_a_second(rt: HostRuntime) {
+    let turns = LargeTurns::new();
+    let first = turns.begin(0).expect(&rt, "a place");
+    assert!(rt; turns.begin(500).is_some());
+    assert!(rt; turns.begin(999).is_none());
+    assert!(rt; !turns.has_place(1_000));
+    assert!(rt; turns.has_place(1_001));
+    let third = turns.begin(1_001).expect(&rt, "the first place");
+    turns.end(first);
+    assert!(rt; turns.begin(1_002).is_none());
+    turns.end(third);
+    assert!(rt; turns.begin(1_003).is_some());
 }
