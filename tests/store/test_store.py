@@ -390,9 +390,9 @@ def test_the_script_keeps_the_last_copies(program, filled, tmp_path):
         time.sleep(1.1)  # until the next name
     assert sorted(it.name for it in tmp_path.iterdir()) == names[2:]
     assert served_log(program, tmp_path / names[3]) == log
-    for arguments in [[file, "0"], [tmp_path / "missing", "1"]]:
+    for source, keep in [(file, "0"), (tmp_path / "missing", "1")]:
         found = sorted(tmp_path.iterdir())
-        ended = subprocess.run([script, program, arguments[0], tmp_path, arguments[1]], capture_output=True, timeout=END, check=False)
+        ended = subprocess.run([script, program, source, tmp_path, keep], capture_output=True, timeout=END, check=False)
         assert ended.returncode != 0 and sorted(tmp_path.iterdir()) == found
 
 
