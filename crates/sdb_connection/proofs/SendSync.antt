@@ -12,6 +12,7 @@ use Rattle.sdb_value_text.specs.contracts.value_text.ValueText as ValueText
 use Rattle.sdb_wire.specs.contracts.parts.DocumentParts as DocumentParts
 use Rattle.sdb_session.specs.contracts.session.Session as Session
 use Rattle.sdb_session.specs.contracts.listing.Listing as Listing
+use Rattle.sdb_link.specs.contracts.deadlines.Deadlines as Deadlines
 use Rattle.sdb_link.specs.contracts.handshake.WaitingClient as WaitingClient
 use Rattle.sdb_link.specs.contracts.pending_document.PendingDocument as PendingDocument
 use Rattle.sdb_link.proofs.SendSync.{ClosingConnection-send, Handshake-send, Link-send, Metrics-send, Metrics-sync, TcpStream-send}
@@ -60,6 +61,9 @@ WaitingClient-send =
       (search (sendable, crosses) depth 20, (search sendable depth 20, tt)),
     )
 
+Deadlines-send : IsSend Deadlines.the_row
+Deadlines-send = declared_send Deadlines.the_type (search (sendable, crosses) depth 40)
+
 TurnEvents-send : IsSend TurnEvents.the_row
 TurnEvents-send = declared_send TurnEvents.the_type (search sendable depth 20)
 
@@ -68,7 +72,7 @@ module _ (B : RattleType) (g : brand.Ghosts B.Denot) where
   LoopPass-send b = declared_send (LoopPass.the_type B g) (search (sendable, Pass-send) depth 20)
 
   Connection-send : IsSend B → IsSend (Connection.the_row B g)
-  Connection-send b = declared_send (Connection.the_type B g) (search (sendable, crosses, Link-send, LoopPass-send, Session-send, Listing-send, PendingDocument-send) depth 60)
+  Connection-send b = declared_send (Connection.the_type B g) (search (sendable, crosses, Link-send, LoopPass-send, Session-send, Listing-send, PendingDocument-send, Deadlines-send) depth 60)
 
   pub ConnectionSlot-send : IsSend B → IsSend (ConnectionSlot.the_row B g)
   ConnectionSlot-send b =

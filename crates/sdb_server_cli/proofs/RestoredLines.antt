@@ -23,8 +23,8 @@ restored_from n before [] a b has same =
     record { items = before; are_read = refl; restored = subst (λ s. HasRestored s.restorer before) (sym same) has }
 restored_from n before (line ∷ lines) a b has all =
     let mid = all.0 in
-    let next = all.1.0.item before has in
-    let more = restored_from (n + 1) (before ++ next.item ∷ []) lines mid b next.restored all.1.1 in
+    let next = all.1.item before has in
+    let more = restored_from (n + 1) (before ++ next.item ∷ []) lines mid b next.restored all.2 in
     record {
       items = more.items;
       are_read = ap (λ o. option_map_or (λ x. restore_from (n + 1) (before ++ x ∷ []) lines) o (Err n)) next.accepted ∙ more.are_read;

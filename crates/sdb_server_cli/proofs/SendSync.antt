@@ -9,7 +9,7 @@ use Rattle.sdb_projection.specs.contracts.table.Table as Table
 use Rattle.sdb_backend.specs.contracts.unsaved.EntryAt as EntryAt
 use Rattle.sdb_backend.proofs.SendSync.{Pass-send}
 use Rattle.sdb_connection.proofs.SendSync.{LoopServer-send, LoopServer-sync}
-use Rattle.sdb_progress.specs.contracts.progress.SaveProgress as SaveProgress
+use Rattle.sdb_loop_state.proofs.SendSync.{SaveProgress-send, SaveProgress-sync}
 use Rattle.sdb_store.specs.contracts.saver.Saver as Saver
 use Rattle.sdb_server_cli.specs.contracts.stored.SavingThread as SavingThread
 
@@ -18,12 +18,6 @@ Table-send = search (sendable, crosses, maps.crosses) depth 20
 
 pub Table-sync : IsSync Table.the_row
 Table-sync = search (sendable, crosses, maps.crosses) depth 20
-
-pub SaveProgress-send : IsSend SaveProgress.the_row
-SaveProgress-send = search (sendable, crosses) depth 40
-
-pub SaveProgress-sync : IsSync SaveProgress.the_row
-SaveProgress-sync = search (sendable, crosses) depth 40
 
 EntryAt-send : IsSend EntryAt.the_row
 EntryAt-send = search (sendable, crosses) depth 20
@@ -50,7 +44,10 @@ module _ (R W : RattleType) where
           search (LoopServer-send, LoopServer-sync, Table-send, Table-sync, sendable, crosses) depth 40,
           (
             Saver-send,
-            (as_row_send (row_field W) w, (search (SaveProgress-send, SaveProgress-sync, sendable, crosses) depth 40, tt)),
+            (
+              as_row_send (row_field W) w,
+              (search (SaveProgress-send, SaveProgress-sync, sendable, crosses) depth 40, tt),
+            ),
           ),
         ),
       )

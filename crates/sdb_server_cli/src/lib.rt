@@ -10,7 +10,6 @@ mod options;
 mod projection_option;
 mod recover;
 mod store_file;
-mod store_place;
 mod store_task;
 mod stored;
 mod stored_lines;

@@ -6,16 +6,12 @@ ghost use Rattle.sdb_backend.specs.PassModel.{IsHostOfBackend};
 ghost use Rattle.sdb_store.specs.RestorerModel.{IsRestorer};
 ghost use Rattle.sdb_server_cli.specs.StoreModel.{HasRestoredLines, IsBackendOfLines};
 
-use crate::store_place::StorePlace;
 use sdb_cli::{STATUS_FAULT, STATUS_OK};
 use sdb_linefile::{LineFile, LineFileError, LineSink, UnreadFile};
-use sdb_progress::{RoundFailure, SaveProgress};
+use sdb_progress::RoundFailure;
 use sdb_store::{LineWriter, RestoreFault, RestoredBackend, Restorer, WriteFault};
 use sqlite::Alter;
 use std::alloc::Global;
-use std::fs::Files;
-use std::sync::Arc;
-use std::time::{Clock, Instant};
 
 /// The start of the line of a block of numbers.
 pub(crate) const BLOCK_START: &[u8] = b"{\"given\":";
@@ -110,31 +106,21 @@ where
     }
 }
 
-/// A store file before its lines were read, and its place.
+/// Writes groups of lines to a file.
 #[derive(Drop)]
-pub(crate) struct StoreFile<S: Alter> {
-    pub(crate) file: UnreadFile<S>,
-    pub(crate) place: StorePlace,
-}
-
-/// Writes groups of lines to a file, and records their writes.
-#[derive(Drop)]
-pub(crate) struct FileWriter<R, S: Alter> {
-    pub(crate) rt: R,
-    pub(crate) place: StorePlace,
-    pub(crate) progress: Arc<SaveProgress, Global>,
+pub(crate) struct FileWriter<S: Alter> {
     pub(crate) file: LineFile<S>,
+    // The number of entries of the group that was committed since it was asked for.
+    written: Option<u64>,
 }
 
-impl<R: Clock, S: Alter> FileWriter<R, S> {
-    // Records a committed group of this number of entries.
-    fn record_group(&self, entries: u64, start: Option<Instant>) {
-        let micros = match (start, Instant::now(&self.rt)) {
-            (Some(start), Ok(end)) => end.saturating_duration_since(start).as_micros(),
-            _ => 0,
-        };
-        let micros = u64::try_from(micros).unwrap_or(u64::MAX);
-        self.progress.record().add_group(entries, micros);
+impl<S: Alter> FileWriter<S> {
+    /// Creates the writer of a file.
+    pub(crate) fn new(file: LineFile<S>) -> FileWriter<S> {
+        FileWriter {
+            file,
+            written: None,
+        }
     }
 }
 
@@ -146,7 +132,7 @@ fn count_entries(group: &[Vec<u8>]) -> u64 {
         .count() as u64
 }
 
-impl<R: Clock + Files, S: Alter> LineWriter for FileWriter<R, S> {
+impl<S: Alter> LineWriter for FileWriter<S> {
     ghost use Rattle.sqlite.specs.State.{HasCleanDisk};
     ghost use Rattle.sdb_linefile.specs.LineFile.{IsFileOf, file_state};
 
@@ -154,16 +140,15 @@ impl<R: Clock + Files, S: Alter> LineWriter for FileWriter<R, S> {
 
     ghost has_lines = { λ lines w. IsFileOf lines w.file };
 
-    fn is_in_place(&self) -> bool {
-        self.place.is_kept(&self.rt)
+    fn take_written(&mut self) -> Option<u64> {
+        self.written.take()
     }
 
     fn write(&mut self, group: Vec<Vec<u8>>) -> Result<(), (WriteFault, Vec<Vec<u8>>)> {
         let entries = count_entries(group.as_slice());
-        let start = Instant::now(&self.rt).ok();
         match self.file.store_group(group) {
             Ok(_) => {
-                self.record_group(entries, start);
+                self.written = Some(entries);
                 Ok(())
             }
             Err((error, group)) => Err((write_fault(error), group)),

@@ -4,8 +4,7 @@ use crate::clients::refuse_closed_input;
 use crate::close::print_audit;
 use crate::load::{LoadedDump, read_dump, store_dump};
 use crate::options::RunMode;
-use crate::store_file::{StoreFile, print_file_fault, restore, restore_lines};
-use crate::store_place::StorePlace;
+use crate::store_file::{print_file_fault, restore, restore_lines};
 use crate::stored::serve_file;
 use crate::stored_lines::answer_stored;
 use sdb_backend::Counts;
@@ -77,29 +76,24 @@ where
     }
 }
 
-/// Runs a job on the file at a path. Returns the exit status, and the file if lines were stored in
-/// it.
+/// Runs a job on its file. Returns the exit status, and the file if lines were stored in it.
 ///
 /// # Errors
 ///
 /// As [`serve_at`](crate::serve_at).
 pub fn run_stored<R, S>(
     rt: R,
-    path: &str,
     file: UnreadFile<S>,
     job: StoreJob,
 ) -> anyhow::Result<(u8, Option<LineFile<S>>)>
 where
-    R: AllocGlobal + Input<Reader = StdinLock<'static>> + Print + Eprint + Files,
+    R: AllocGlobal + Input<Reader = StdinLock<'static>> + Print + Eprint,
     R: Net<Listener = TcpListener, Stream = TcpStream> + Threads + Wait + Clock,
     R: Copy + Drop + Send + Sync + 'static,
     S: Alter + Drop + Send + 'static,
 {
     match job {
-        StoreJob::Serve(mode, table) => {
-            let place = StorePlace::new(rt.alloc(), &rt, path)?;
-            serve_stored(rt, StoreFile { file, place }, mode, table)
-        }
+        StoreJob::Serve(mode, table) => serve_stored(rt, file, mode, table),
         StoreJob::Load(dump) => store_dump(&rt, file, dump),
     }
 }
@@ -107,12 +101,12 @@ where
 // Serves clients or a session of lines.
 fn serve_stored<R, S>(
     rt: R,
-    store: StoreFile<S>,
+    file: UnreadFile<S>,
     mode: RunMode,
     table: Table,
 ) -> anyhow::Result<(u8, Option<LineFile<S>>)>
 where
-    R: AllocGlobal + Input<Reader = StdinLock<'static>> + Print + Eprint + Files,
+    R: AllocGlobal + Input<Reader = StdinLock<'static>> + Print + Eprint,
     R: Net<Listener = TcpListener, Stream = TcpStream> + Threads + Wait + Clock,
     R: Copy + Drop + Send + Sync + 'static,
     S: Alter + Drop + Send + 'static,
@@ -122,8 +116,8 @@ where
             address,
             until,
             options,
-        } => serve_file(rt, store, address, until, options, table),
-        _ => answer_stored(rt, store, &table),
+        } => serve_file(rt, file, address, until, options, table),
+        _ => answer_stored(rt, file, &table),
     }
 }
 

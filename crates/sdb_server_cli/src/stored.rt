@@ -5,18 +5,17 @@ ghost use Rattle.sdb_event_loop.specs.LoopModel.{IsHostOfLoops, loops_backend};
 ghost use Rattle.sdb_store.specs.SaverModel.{saver_pass};
 
 use crate::clients::{ServeOptions, StopCondition, loop_server, print_address, read_to_end};
-use crate::store_file::{FileWriter, StoreFile, print_store_fault, restore};
+use crate::store_file::{FileWriter, print_store_fault, restore};
 use sdb_backend::{Counts, Host};
 use sdb_cli::{STATUS_FAULT, STATUS_OK};
 use sdb_event_loop::{LoopServer, bind_listener, listen_on_loops};
-use sdb_linefile::LineFile;
+use sdb_linefile::{LineFile, UnreadFile};
 use sdb_progress::{SaveProgress, SaveRecord};
 use sdb_projection::Table;
 use sdb_server::{Clock as MomentClock, SystemClock};
 use sdb_store::{LineWriter, RestoredBackend, RoundListener, SaveFault, Saver, save_until_closed};
 use sqlite::Alter;
 use std::alloc::{AllocError, Global};
-use std::fs::Files;
 use std::io::{Read, StdinLock};
 use std::net::{Net, SocketAddr, TcpListener, TcpStream};
 use std::sync::{Arc, Wait};
@@ -31,42 +30,32 @@ const END_SECONDS: u64 = 5;
 /// before a client is sent it. Returns the exit status, and the file if it was served.
 pub(crate) fn serve_file<R, S>(
     rt: R,
-    store: StoreFile<S>,
+    file: UnreadFile<S>,
     address: SocketAddr,
     until: StopCondition,
     options: ServeOptions,
     table: Table,
 ) -> anyhow::Result<(u8, Option<LineFile<S>>)>
 where
-    R: AllocGlobal + Input<Reader = StdinLock<'static>> + Print + Eprint + Files,
+    R: AllocGlobal + Input<Reader = StdinLock<'static>> + Print + Eprint,
     R: Net<Listener = TcpListener, Stream = TcpStream> + Threads + Wait + Clock,
     R: Copy + Drop + Send + Sync + 'static,
     S: Alter + Drop + Send + 'static,
 {
-    let StoreFile { file, place } = store;
     let (file, restored) = match restore(rt, file) {
         Ok(both) => both,
         Err(error) => return Ok((print_store_fault(&rt, error)?, None)),
     };
     match bind_listener(&rt, address) {
         Ok(listener) => {
-            let highest = restored.highest_number;
-            let progress = Arc::new(rt.alloc(), SaveProgress::new(highest))?;
-            let shared = Arc::try_clone(&progress)?;
-            let writer = FileWriter {
-                rt,
-                place,
-                progress: shared,
-                file,
-            };
+            let writer = FileWriter::new(file);
             let served = Served {
                 listener,
                 until,
                 options,
                 table,
             };
-            let (status, writer) = serve_saved(rt, served, restored, &progress, writer)?;
-            let FileWriter { file, .. } = writer;
+            let (status, FileWriter { file, .. }) = serve_saved(rt, served, restored, writer)?;
             Ok((status, Some(file)))
         }
         Err(error) => {
@@ -149,12 +138,12 @@ impl<R: Wait + Clock + Eprint + Copy + Drop, W: LineWriter + Drop> SavingThread<
             mut writer,
             progress,
         } = self;
+        let backend = state.backend();
         let listener = LoopListener {
             rt,
             state: &state,
             record: progress.record(),
         };
-        let backend = state.backend();
         let saved = save_until_closed(&rt, backend, &mut saver, &mut writer, &progress, &listener);
         if saved.is_err() {
             state.stop(&rt);
@@ -215,7 +204,6 @@ fn serve_saved<R, W>(
     rt: R,
     served: Served,
     restored: RestoredBackend<R>,
-    progress: &Arc<SaveProgress, Global>,
     writer: W,
 ) -> anyhow::Result<(u8, W)>
 where
@@ -237,15 +225,17 @@ where
         options,
         table,
     } = served;
+    let progress = SaveProgress::new(highest_number);
     progress.record().add_restored(backend.counts().entries);
+    let progress = Arc::new(alloc, progress)?;
     let server = loop_server(&rt, backend, table, options, session_limit(until), false)?;
-    let shared = Arc::try_clone(progress)?;
+    let shared = Arc::try_clone(&progress)?;
     let state = Arc::new(alloc, server.with_progress(shared))?;
     let saver = create_saver(alloc, &state, &mut host, highest_number)?;
-    let saving = start_saving(rt, &state, saver, writer, progress)?;
+    let saving = start_saving(rt, &state, saver, writer, &progress)?;
     let served = serve_until(rt, listener, until, &state, &mut host);
     progress.close();
-    let noted = note_long_save(&rt, progress);
+    let noted = note_long_save(&rt, &progress);
     let (saved, writer) = saving.join(&rt);
     noted?;
     let status = print_end(&rt, until, saved, served, state.backend().counts())?;

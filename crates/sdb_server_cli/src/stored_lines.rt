@@ -3,23 +3,21 @@ ghost use Rattle.std.specs.Prelude.{IfOk, OnOk};
 ghost use Rattle.sdb_backend.specs.PassModel.{IsHostOfBackend, IsPassOfBackend};
 ghost use Rattle.sdb_store.specs.SaverModel.{saver_pass};
 
-use crate::store_file::{FileWriter, StoreFile, print_store_fault, restore};
+use crate::store_file::{FileWriter, print_store_fault, restore};
 use sdb_backend::{Backend, Host, Pass};
 use sdb_cli::{STATUS_FAULT, STATUS_OK, exit_status};
-use sdb_linefile::LineFile;
+use sdb_linefile::{LineFile, UnreadFile};
 use sdb_lines::{
     CountingReader, CountingWriter, Counts, LineHandler, LineProgress, RunFault, run_lines,
 };
-use sdb_progress::SaveProgress;
 use sdb_projection::Table;
 use sdb_server::{Clock, SystemClock};
 use sdb_session::Session;
 use sdb_store::{LineWriter, RestoredBackend, SaveFault, Saver};
 use sqlite::Alter;
 use std::alloc::{AllocError, Global};
-use std::fs::Files;
 use std::io::{Error, ErrorKind, Read, StdinLock, Write};
-use std::sync::{Arc, Wait};
+use std::sync::Wait;
 use std::time::Duration;
 use std::{io, thread};
 
@@ -182,15 +180,14 @@ impl<R: Wait + std::time::Clock + Drop, W: LineWriter, O: Write> Write
 /// [`AllocError`] if an allocation fails before the session, or the error of printing a line.
 pub(crate) fn answer_stored<R, S>(
     rt: R,
-    store: StoreFile<S>,
+    file: UnreadFile<S>,
     table: &Table,
 ) -> anyhow::Result<(u8, Option<LineFile<S>>)>
 where
-    R: AllocGlobal + Input<Reader = StdinLock<'static>> + Print + Eprint + Files,
+    R: AllocGlobal + Input<Reader = StdinLock<'static>> + Print + Eprint,
     R: Wait + std::time::Clock + Copy + Drop,
     S: Alter + Drop,
 {
-    let StoreFile { file, place } = store;
     let (file, restored) = match restore(rt, file) {
         Ok(both) => both,
         Err(error) => return Ok((print_store_fault(&rt, error)?, None)),
@@ -207,12 +204,7 @@ where
         backend: &backend,
         saver,
         number: pass.number(),
-        writer: FileWriter {
-            rt,
-            place,
-            progress: Arc::new(rt.alloc(), SaveProgress::new(highest_number))?,
-            file,
-        },
+        writer: FileWriter::new(file),
         output: io::writer(&rt),
         fault: None,
     };

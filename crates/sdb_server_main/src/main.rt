@@ -37,7 +37,7 @@ fn main(rt: HostRuntime) -> anyhow::Result<ExitCode> {
         Ok(file) => file,
         Err(error) => return Ok(ExitCode::from(print_file_fault(&rt, path.as_str(), error)?)),
     };
-    let (status, file) = run_stored(rt, path.as_str(), file, job)?;
+    let (status, file) = run_stored(rt, file, job)?;
     let closed = match file {
         Some(file) => close(file),
         None => Ok(()),

@@ -21,8 +21,8 @@ pub trait LineWriter {
     // Each crash leaves exactly these lines.
     ghost has_lines: { List (List ℕ) → Self → Type 0 };
 
-    /// Returns whether the lines are where a restart reads them. A file may have been moved.
-    fn is_in_place(&self) -> bool;
+    /// Returns the number of entries of the group that was committed since the last call, if one was.
+    fn take_written(&mut self) -> Option<u64>;
 
     /// Appends the lines, and commits them: after `Ok` a crash leaves all of them.
     ///

@@ -34,9 +34,6 @@ pub enum SaveFault {
     /// The list of stored entries isn't complete.
     #[error("the list of stored entries isn't complete")]
     Incomplete,
-    /// The lines aren't where a restart reads them.
-    #[error("the file was moved or removed")]
-    Moved,
     /// No number is left for a session.
     #[error("no number is left for a session")]
     OutOfNumbers,
@@ -119,9 +116,8 @@ impl Saver {
     /// # Errors
     ///
     /// [`SaveFault::Retry`], [`SaveFault::Closed`] if the writer fails, [`SaveFault::OutOfMemory`] if
-    /// an allocation fails, [`SaveFault::Incomplete`] if the backend's list isn't complete,
-    /// [`SaveFault::Moved`] if the writer isn't in place, and [`SaveFault::OutOfNumbers`] if a journal
-    /// can't have the number.
+    /// an allocation fails, [`SaveFault::Incomplete`] if the backend's list isn't complete, and
+    /// [`SaveFault::OutOfNumbers`] if a journal can't have the number.
     pub fn save_round<R: Wait + Drop, W: LineWriter>(
         &mut self,
         backend: &Backend<R>,
@@ -135,9 +131,6 @@ impl Saver {
         ensures kept_on_err { OnErr result (AddsLines backend.now self.old self.new) }
         ensures block { HasBlockLine self.old → HasBlockLine self.new }
     {
-        if !writer.is_in_place() {
-            return Err(SaveFault::Moved);
-        }
         self.add_block(backend, number)?;
         self.add_entries(backend)?;
         self.write_group(writer)

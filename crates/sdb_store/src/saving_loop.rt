@@ -43,7 +43,7 @@ pub fn save_until_closed<R: Wait + Clock + Drop, W: LineWriter, L: RoundListener
     let mut closing_since = None;
     for _ in rt.forever() {
         let is_last = progress.is_closing();
-        let saved = save_once(backend, saver, writer, progress);
+        let saved = save_once(rt, backend, saver, writer, progress);
         if is_end(saved, is_last, is_last && is_late(rt, &mut closing_since)) {
             progress.end();
             listener.notify(saved);
@@ -56,7 +56,8 @@ pub fn save_until_closed<R: Wait + Clock + Drop, W: LineWriter, L: RoundListener
 }
 
 // Makes one round.
-fn save_once<R: Wait + Drop, W: LineWriter>(
+fn save_once<R: Wait + Clock + Drop, W: LineWriter>(
+    rt: &R,
     backend: &Backend<R>,
     saver: &mut Saver,
     writer: &mut W,
@@ -66,9 +67,30 @@ fn save_once<R: Wait + Drop, W: LineWriter>(
     ensures { IsPassOfBackend (saver_pass saver.new) backend.now }
 {
     let round = progress.begin_round();
+    let start = Instant::now(rt).ok();
     saver.save_round(backend, writer, progress.requested_number())?;
     progress.end_round(round, saver.reserved());
+    record_group(rt, writer, progress, start);
     Ok(())
+}
+
+// Records the group of a round that began at this time, if one was committed.
+fn record_group<R: Clock, W: LineWriter>(
+    rt: &R,
+    writer: &mut W,
+    progress: &SaveProgress,
+    start: Option<Instant>,
+) {
+    let Some(entries) = writer.take_written() else {
+        return;
+    };
+    let micros = match (start, Instant::now(rt)) {
+        (Some(start), Ok(end)) => end.saturating_duration_since(start).as_micros(),
+        _ => 0,
+    };
+    progress
+        .record()
+        .add_group(entries, u64::try_from(micros).unwrap_or(u64::MAX));
 }
 
 // Returns whether no round follows: the last one is saved, or can't be.
