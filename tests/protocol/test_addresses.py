@@ -1,4 +1,4 @@
-"""`localhost` is an address of `./serve` and of the programs of examples/, though the server requires an IP address."""
+"""`localhost` is an address of the server, of `./serve` and of the programs of examples/."""
 import importlib.machinery
 import importlib.util
 import os

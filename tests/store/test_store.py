@@ -406,25 +406,7 @@ def test_refused_backups(program, filled, tmp_path):
     assert not list(tmp_path.iterdir())
 
 
-# A file that is moved -------------------------------------------------------------------------------------
-
-
-@pytest.mark.parametrize("change", ["moved", "removed", "replaced"])
-def test_a_server_whose_file_is_moved_ends(program, tmp_path, change):
-    file = tmp_path / "store"
-    server = Server(program, "--store", str(file))
-    with server, server.enter() as connection:
-        editor = Editor(server.address, "1", "x")
-        editor.sent = 1
-        connection.ask(editor.message())
-        if change == "moved":
-            file.rename(tmp_path / "moved")
-        else:
-            file.unlink()
-        if change == "replaced":
-            file.write_bytes(b"")
-        assert server.process.wait(timeout=END) == 1
-        assert server.process.stderr.read() == "store: the file was moved or removed\n"
+# Refused starts -------------------------------------------------------------------------------------------
 
 
 def test_a_refused_start_creates_nothing(program, tmp_path):
