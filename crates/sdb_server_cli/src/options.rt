@@ -182,7 +182,7 @@ fn copy_option<'a>(alloc: Global, name: &'a str, help: &'a str) -> Result<Arg<'a
     copy.conflicts_with("check")?.conflicts_with("load")
 }
 
-// Makes an option a task on a store, beside which the server does nothing else.
+// Makes an option a task on a store. The server does nothing else in such a run.
 fn as_store_task<'a>(task: Arg<'a>) -> Result<Arg<'a>, AllocError> {
     let task = task.requires_arg("store")?.conflicts_with("dump")?;
     let task = task.conflicts_with("projection")?;

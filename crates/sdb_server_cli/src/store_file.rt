@@ -22,7 +22,7 @@ pub fn print_file_fault(rt: &impl Eprint, path: &str, error: LineFileError) -> a
     Ok(STATUS_FAULT)
 }
 
-/// Prints why an open file isn't used as a store any more, and returns the exit status.
+/// Prints why a file isn't used as a store after its open, and returns the exit status.
 pub(crate) fn print_store_fault(rt: &impl Eprint, error: LineFileError) -> anyhow::Result<u8> {
     eprintln!(rt; "store: {error}")?;
     Ok(STATUS_FAULT)
