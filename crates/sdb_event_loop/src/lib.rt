@@ -8,8 +8,9 @@
 //! milliseconds, a spare thread continues the loop. There are 32 spare threads. While more clients
 //! than these are answered for long, their loops wait.
 //!
-//! Parsing takes up to 170 times the length of a message. So at most two clients with 64 KiB or more
-//! of unanswered input are served at once, or for a second. Others wait, without holding up a loop.
+//! A message takes up to 170 times its length in memory while it is answered. So at most two clients
+//! with 64 KiB or more of unanswered input are served at once, or for a second, and at most six at
+//! once. Others wait, without holding up a loop.
 #![tactic(auto)]
 
 mod acceptor;

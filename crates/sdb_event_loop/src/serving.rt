@@ -52,7 +52,13 @@ impl<R: Net + Wait + Clock + Eprint + Copy + Drop, P: Policy + Drop, B: PassBran
             .large_turns
             .begin(self.clock.time.millis)
         {
-            Some(place) => self.begin_turn(key, Some(place)),
+            Some(place) => {
+                let turn = self.begin_turn(key, Some(place));
+                if turn.is_none() {
+                    self.context.loops().large_turns.end(place);
+                }
+                turn
+            }
             None => {
                 self.connections.await_place(key, self.clock.second());
                 None

@@ -270,3 +270,18 @@ fn a_place_of_a_large_turn_is_given_to_another_after_a_second(rt: HostRuntime) {
     turns.end(third);
     assert!(rt; turns.begin(1_003).is_some());
 }
+
+#[test]
+fn at_most_six_large_turns_last(rt: HostRuntime) {
+    let turns = LargeTurns::new();
+    let first = turns.begin(0).expect(&rt, "a place");
+    for second in 0..5 {
+        assert!(rt; turns.begin(second * 1_001).is_some());
+    }
+    assert!(rt; !turns.has_place(1_000_000));
+    assert!(rt; turns.begin(1_000_000).is_none());
+    turns.end(first);
+    assert!(rt; turns.has_place(1_000_000));
+    assert!(rt; turns.begin(1_000_000).is_some());
+    assert!(rt; turns.begin(2_000_000).is_none());
+}
