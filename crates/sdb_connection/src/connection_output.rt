@@ -12,10 +12,10 @@ use sdb_session::{Listing, Policy};
 use std::sync::Wait;
 
 // Maximum number of entries read from one queue at a time, and number of such reads in one turn. The
-// output is compared with its bound after each.
+// output is compared with its bound after each. A session has at most 64 queues.
 const ENTRIES_PER_TAKE: u64 = 8;
 
-const TAKES_PER_TURN: usize = 8;
+const TAKES_PER_TURN: usize = 512;
 
 // Number of parts of a listing that are sent in one turn, compared likewise.
 const PARTS_PER_TURN: usize = 8;
@@ -134,11 +134,19 @@ impl<B: PassBrand> Connection<B> {
     ) -> Result<Progress, SessionEnd>
         ensures { let b = context.now.state.value.backend in KeepsPass b self.old.pass.pass b self.new.pass.pass }
     {
+        let queues = self.subscription_count();
+        // (the number of queues in a row that were read to their ends)
+        let mut ended: usize = 0;
         for _ in 0..TAKES_PER_TURN {
-            let taken = self.take_once(context, output)?;
-            if taken < u128::from(ENTRIES_PER_TAKE) {
+            if ended >= queues {
                 return Ok(Progress::Idle);
             }
+            let taken = self.take_next(context, output)?;
+            ended = if taken < u128::from(ENTRIES_PER_TAKE) {
+                ended.saturating_add(1)
+            } else {
+                0
+            };
             if output.bytes.len() >= OUTPUT_BOUND {
                 return Ok(Progress::More);
             }
@@ -146,18 +154,22 @@ impl<B: PassBrand> Connection<B> {
         Ok(Progress::More)
     }
 
-    // Reads each queue once and returns the number of entries read.
-    fn take_once<R: Wait + Drop, P: Policy + Drop>(
+    // Reads the next queue once, and returns the number of entries read.
+    fn take_next<R: Wait + Drop, P: Policy + Drop>(
         &mut self,
         context: &LoopContext<R, P, B>,
         output: &mut LoopOutput,
     ) -> Result<u128, SessionEnd>
         ensures { let b = context.now.state.value.backend in KeepsPass b self.old.pass.pass b self.new.pass.pass }
     {
+        let position = self.next_queue.checked_rem(self.subscription_count());
+        let position = position.unwrap_or(0);
+        self.next_queue = position.saturating_add(1);
         let mut sink = FrameSink::new(&mut self.websocket, &mut output.bytes);
+        let session = &mut self.session;
         let taken = self
             .pass
-            .pump(context, &mut self.session, ENTRIES_PER_TAKE, &mut sink);
+            .pump_one(context, session, position, ENTRIES_PER_TAKE, &mut sink);
         session_result(taken)
     }
 }

@@ -101,21 +101,24 @@ impl<B: PassBrand> LoopPass<B> {
         )
     }
 
-    /// Reads at most `max` entries from each queue of the session, and writes them.
-    pub fn pump<R: Wait + Drop, P: Policy + Drop, O: AnswerSink>(
+    /// Reads at most `max` entries from the queue of the session's subscription at a position, and
+    /// writes them.
+    pub fn pump_one<R: Wait + Drop, P: Policy + Drop, O: AnswerSink>(
         &mut self,
         context: &LoopContext<R, P, B>,
         session: &mut Session,
+        position: usize,
         max: u64,
         out: &mut O,
     ) -> Result<u128, Ended>
         ensures { let b = context.now.state.value.backend in KeepsPass b self.old.pass b self.new.pass }
     {
         let state = &context.state;
-        session.pump_to(
+        session.pump_one_to(
             &state.backend,
             &mut self.pass,
             state.policy.table(),
+            position,
             max,
             out,
         )

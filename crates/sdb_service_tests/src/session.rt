@@ -110,6 +110,50 @@ fn a_session_receives_entries_of_others(rt: HostRuntime) {
     fetch_long_text(&rt, rt.alloc(), &mut server, &mut second);
 }
 
+// Reads the queue of the subscription at a position. Returns the numbers of entries taken and of
+// messages sent.
+fn pump_one_counts(
+    rt: &impl Abort,
+    alloc: Global,
+    server: &mut TestServer,
+    session: &mut Session,
+    position: usize,
+) -> (u128, usize) {
+    let mut texts: Vec<String> = Vec::new(alloc);
+    let (shard, table) = (&mut server.shard, &server.table);
+    let taken = session.pump_one_to(&Solo, shard, table, position, 1, &mut texts);
+    (taken.ok().expect(rt, "out of memory"), texts.len())
+}
+
+#[test]
+fn each_queue_is_pumped_alone(rt: HostRuntime) {
+    let alloc = rt.alloc();
+    let mut server = TestServer::new(alloc);
+    let mut first = new_session(&rt, alloc, "s1");
+    let mut second = new_session(&rt, alloc, "s2");
+    assert_eq!(rt; second.subscription_count(), 0);
+    assert!(rt; pump_one_counts(&rt, alloc, &mut server, &mut second, 0) == (0, 0));
+    for subscribe in [SUBSCRIBE, r#"{"a":"s","c":"b","d":"2"}"#] {
+        let _ = server.answers_to(&rt, &mut second, subscribe);
+    }
+    assert_eq!(rt; second.subscription_count(), 2);
+    let create = r#"{"a":"op","c":"b","d":"2","seq":1,"create":{"type":"json0","data":1}}"#;
+    let edit = r#"{"a":"op","c":"b","d":"2","seq":2,"v":1,"op":[{"p":[],"na":1}]}"#;
+    for message in [create, edit] {
+        let _ = server.answers_to(&rt, &mut first, message);
+    }
+    for (position, wanted) in [
+        (0, (0, 0)),
+        (1, (1, 1)),
+        (2, (0, 0)),
+        (1, (1, 1)),
+        (1, (0, 0)),
+    ] {
+        let counts = pump_one_counts(&rt, alloc, &mut server, &mut second, position);
+        assert!(rt; counts == wanted);
+    }
+}
+
 // Stores an edit that adds 1 for each seq of the range.
 fn store_edits(
     rt: &impl Abort,

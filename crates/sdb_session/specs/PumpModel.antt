@@ -1,5 +1,5 @@
 -- Pumps: one read of each queue, and the answers for the entries read.
-use Rattle.std.specs.Prelude.{◌≡◌, ℕ, ◌+◌, ◌⊎◌, List, [], ◌∷◌, ◌++◌, length, map, filter, Bool, nat_eq, not, ◌&&◌, Option, Some, Result, Ok, Err, bytes_eq}
+use Rattle.std.specs.Prelude.{◌≡◌, ℕ, ◌+◌, ◌⊎◌, List, [], ◌∷◌, ◌++◌, length, map, filter, Bool, nat_eq, not, ◌&&◌, Option, Some, Result, Ok, Err, bytes_eq, slice_get, option_to_list}
 use Rattle.sdb_oplog.specs.Plain.{PlainEntry}
 use Rattle.sdb_oplog.specs.Keys.{PlainKey}
 use Rattle.sdb_projection.specs.Table.{PlainProjection}
@@ -33,6 +33,10 @@ pump_answers t by source (x ∷ xs) = take_answers t by source x ++ pump_answers
 abbrev pub pump_count : List PlainTake → ℕ
 pump_count [] = 0
 pump_count (x ∷ xs) = length x.entries + pump_count xs
+
+-- the session with only its subscription at this position, or with none if there is no such subscription
+abbrev pub only_sub_at : ℕ → PlainSession → PlainSession
+only_sub_at n s = record s { subs = option_to_list (slice_get s.subs n) }
 
 module _ {P : Type 0} (acts : PlainKey → CallRelation P) (max : ℕ) where
   abbrev pub TakeCall : QueueId → P → Option (List PlainEntry) → P → Type 0

@@ -3,7 +3,7 @@ ghost use Rattle.std.specs.Prelude.{◌≡◌, ⊤, ℕ, IfOk, OnOk, length, map
 ghost use Rattle.std.specs.Result.{is_err};
 ghost use Rattle.sdb_oplog.specs.Keys.{plain_key};
 ghost use Rattle.sdb_submit.specs.PassModel.{IsNextPass};
-ghost use Rattle.sdb_session.specs.PumpModel.{is_own_entry, entries_of_others, CloseAllCalls, PumpOutcome};
+ghost use Rattle.sdb_session.specs.PumpModel.{is_own_entry, entries_of_others, only_sub_at, CloseAllCalls, PumpOutcome};
 ghost use Rattle.sdb_session.specs.ProjectionModel.{projection_of_key};
 ghost use Rattle.sdb_session.specs.View.{EndsOnError, WroteAnswers, plain_session, pumped_count};
 ghost use Rattle.sdb_session.specs.Responses.{entry_answers};
@@ -93,6 +93,65 @@ impl Session {
             Ok(taken) => Ok(taken),
             Err(error) => Err(self.end_with_error(error)),
         }
+    }
+
+    /// Reads at most `max` entries from the queue of one subscription, and writes those that aren't the
+    /// session's own, as [`Session::pump_to`] does from each queue. `position` counts the subscriptions
+    /// from 0 in their order. Returns the number of entries read, 0 if there is no such subscription.
+    ///
+    /// # Errors
+    ///
+    /// [`Ended`] if an allocation fails or the session had ended. After a failed allocation the queue
+    /// may have been read, and `out` is unspecified.
+    pub fn pump_one_to<D: Desk, O: AnswerSink>(
+        &mut self,
+        desk: &D,
+        pass: &mut D::Pass,
+        table: &Table,
+        position: usize,
+        max: u64,
+        out: &mut O,
+    ) -> Result<u128, Ended>
+        requires accepted { D.accepts desk.now pass.old }
+        ensures pass { IsNextPass D.accepts D.pass_number desk.now pass.old pass.new }
+        ensures session { plain_session self.new ≡ plain_session self.old }
+        ensures ended { EndsOnError (is_err result) self.old pass.old self.new pass.new }
+        ensures pumped { PumpOutcome (D.step desk.now) max table.now (D.pass_number desk.now pass.old)
+            (only_sub_at position (plain_session self.old)) pass.old result
+            (WroteAnswers O.items (O.contents out.old) (O.contents out.new)) pass.new }
+    {
+        let taken = match self.ended {
+            Some(ended) => return Err(ended),
+            None => self.take_from_one(desk, pass, table, position, max, out),
+        };
+        match taken {
+            Ok(taken) => Ok(taken),
+            Err(error) => Err(self.end_with_error(error)),
+        }
+    }
+
+    fn take_from_one<D: Desk, O: AnswerSink>(
+        &self,
+        desk: &D,
+        pass: &mut D::Pass,
+        table: &Table,
+        position: usize,
+        max: u64,
+        out: &mut O,
+    ) -> Result<u128, AllocError>
+        requires accepted { D.accepts desk.now pass.old }
+        ensures pass { IsNextPass D.accepts D.pass_number desk.now pass.old pass.new }
+        ensures pumped { PumpOutcome (D.step desk.now) max table.now (D.pass_number desk.now pass.old)
+            (only_sub_at position (plain_session self.now)) pass.old result
+            (WroteAnswers O.items (O.contents out.old) (O.contents out.new)) pass.new }
+    {
+        let by = desk.by(pass);
+        let Some((key, queue)) = self.subscriptions.get_index(position) else {
+            return Ok(0);
+        };
+        let entries = take_entries(self.alloc, desk, pass, &queue.base, queue.id, max)?;
+        self.write_entries_of_others(by, table, key, entries.as_slice(), out)?;
+        Ok(entries.len() as u128)
     }
 
     fn take_from_each<D: Desk, O: AnswerSink>(

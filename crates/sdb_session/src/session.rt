@@ -1,5 +1,5 @@
 //! Sessions.
-ghost use Rattle.std.specs.Prelude.{◌≡◌, ◌∷◌, [], true, false, IfOk, OnOk, map, string_bytes};
+ghost use Rattle.std.specs.Prelude.{◌≡◌, ◌∷◌, [], true, false, IfOk, OnOk, length, map, string_bytes};
 ghost use Rattle.std.specs.Result.{is_err, is_ok};
 ghost use Rattle.sdb_oplog.specs.declared.codes.Code.TheVariants.{E1};
 ghost use Rattle.sdb_submit.specs.PassModel.{IsNextPass};
@@ -84,6 +84,13 @@ impl Session {
             last_path: PathInterner::new(),
             ended: None,
         }
+    }
+
+    /// Returns the number of subscriptions.
+    pub fn subscription_count(&self) -> usize
+        ensures { result ≡ length (plain_session self.now).subs }
+    {
+        self.subscriptions.len()
     }
 
     /// Returns the opening message, which contains the source.
