@@ -59,6 +59,7 @@ def test_health_and_metrics_count_what_the_server_does(program):
             assert counted["navirotsohy_messages_total"] == 4
             assert counted["navirotsohy_acknowledgements_total"] == 3
             assert counted["navirotsohy_entries"] == 2
+            assert counted["process_resident_memory_bytes"] > 1_000_000
             refusal = "ERR_OP_VERSION_NEWER_THAN_CURRENT_SNAPSHOT"
             assert counted[f'navirotsohy_refusals_total{{code="{refusal}"}}'] == 1
             assert counted['navirotsohy_refusals_total{code="ERR_LIMIT"}'] == 0
@@ -74,6 +75,18 @@ def test_health_and_metrics_count_what_the_server_does(program):
         counted = metrics(server)
         assert sum(counted[name] for name in counted if "sessions_ended" in name) == 1
         assert counted['navirotsohy_clients_refused_total{reason="no_room"}'] == 1
+
+
+def test_subscriptions_are_counted(program):
+    """Those of two sessions, of which one subscribes to two documents, and one twice to the same; an end of each kind."""
+    with Server(program) as server, server.enter() as first:
+        with server.enter() as second:
+            for client, document in [(first, "1"), (second, "1"), (second, "1"), (second, "2")]:
+                client.ask({"a": "s", "c": "b", "d": document})
+            wait_until(lambda: metrics(server)["navirotsohy_subscriptions"] == 3)
+            second.ask({"a": "u", "c": "b", "d": "1"})
+            wait_until(lambda: metrics(server)["navirotsohy_subscriptions"] == 2)
+        wait_until(lambda: metrics(server)["navirotsohy_subscriptions"] == 1)
 
 
 def wait_until(holds):
@@ -96,6 +109,7 @@ def test_a_store_counts_rounds_and_saved_entries(program, tmp_path):
         assert counted["navirotsohy_rounds_total"] == counted["navirotsohy_round_seconds_count"] >= 2
         assert counted["navirotsohy_round_entries_sum"] == 2
         assert counted["navirotsohy_hold_seconds_count"] >= 2
+        assert counted["navirotsohy_acknowledgements_total"] == 2
         for name in ["round_seconds", "round_entries", "hold_seconds"]:
             buckets = [counted[it] for it in counted if it.startswith(f"navirotsohy_{name}_bucket")]
             assert len(buckets) == 13 and buckets == sorted(buckets)

@@ -45,6 +45,8 @@ pub struct Connection<B: PassBrand> {
     pub(crate) document: Option<Box<PendingDocument>>,
     // Whether the queues weren't read because of a listing or a document.
     pub(crate) is_deferred: bool,
+    // The position of the subscription whose queue is read next.
+    pub(crate) next_queue: usize,
     /// Whether the loop reads from it next.
     pub is_listed: bool,
     /// Whether the loop reads its queues next.
@@ -77,7 +79,7 @@ fn source_of(alloc: Global, session: &Session) -> Option<String> {
     String::from_str(alloc, source).ok()
 }
 
-/// Returns the result of a call of the session. A session that has ended ends for want of memory.
+/// Returns the result of a call of the session, which ends if an allocation failed.
 pub(crate) fn session_result<T>(returned: Result<T, Ended>) -> Result<T, SessionEnd> {
     match returned {
         Ok(value) => Ok(value),
@@ -122,6 +124,7 @@ impl<B: PassBrand> Connection<B> {
             listing: None,
             document: None,
             is_deferred: false,
+            next_queue: 0,
             is_listed: false,
             is_lagging: false,
         }
@@ -177,15 +180,20 @@ impl<B: PassBrand> Connection<B> {
         }
     }
 
-    /// Releases held output if it is committed. Returns whether it did.
-    pub fn release(&mut self, progress: &SaveProgress, time: LoopTime) -> bool
+    /// Releases held output if it is committed. Returns the number of acknowledgements in it if it did.
+    pub fn release(&mut self, progress: &SaveProgress, time: LoopTime) -> Option<u64>
         ensures { pass_number self.new.pass.pass ≡ pass_number self.old.pass.pass }
     {
-        let is_released = self.link.release(progress);
-        if is_released {
+        let released = self.link.release(progress);
+        if released.is_some() {
             progress.record().add_hold(self.deadlines.end_hold(time));
         }
-        is_released
+        released
+    }
+
+    /// Returns the number of subscriptions of the session.
+    pub fn subscription_count(&self) -> usize {
+        self.session.subscription_count()
     }
 
     /// Adds a group. Returns `false` if the session was subscribed to it before.
@@ -251,6 +259,7 @@ impl<B: PassBrand> Connection<B> {
         self.deadlines.record_write(time.second);
         if self.link.is_held() {
             self.deadlines.begin_hold(time);
+            self.link.add_held(output.take_acknowledgements());
         }
         if is_sent {
             Ok(())
@@ -334,6 +343,7 @@ impl<B: PassBrand> Connection<B> {
         ensures { let b = context.now.state.value.backend in KeepsPass b self.pass.pass b result.pass.pass }
     {
         let is_closing = self.send_end(end, output);
+        output.tally.add_subscriptions(self.subscription_count(), 0);
         let Connection {
             alloc,
             link,

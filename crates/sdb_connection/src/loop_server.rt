@@ -5,7 +5,7 @@ ghost use Rattle.sdb_backend.specs.declared.pass.Host.{Host as HostState};
 ghost use Rattle.sdb_connection.specs.LoopModel.{IsHostOfLoops, loops_backend};
 
 use sdb_backend::Backend;
-use sdb_link::{LoopTime, Metrics, ServerStatus};
+use sdb_link::{LoopTime, Metrics, ServerStatus, resident_memory};
 use sdb_loop_state::{LoopOptions, LoopState};
 use sdb_progress::SaveProgress;
 use std::alloc::{AllocError, Global};
@@ -142,6 +142,7 @@ impl<R, P> LoopServer<R, P> {
             entries: counts.entries,
             start: (time.moment_millis / 1_000).saturating_sub(time.second),
             uptime: time.second,
+            resident: resident_memory(),
             tally: self.metrics.load(),
             saving: progress.map(|progress| progress.record().load()),
         }

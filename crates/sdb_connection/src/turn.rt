@@ -73,10 +73,13 @@ impl<B: PassBrand> Turn<B> {
             mut connection,
             large,
         } = self;
+        let subscriptions = connection.subscription_count();
         let outcome = connection.serve(context, time, buffers);
         if outcome.is_err() {
             connection.send_rest(time, &mut buffers.output);
         }
+        let tally = &mut buffers.output.tally;
+        tally.add_subscriptions(subscriptions, connection.subscription_count());
         context.add_to_metrics(&mut buffers.output.tally);
         let subscribed = buffers.output.take_subscribed(alloc);
         buffers.output.free_large(alloc);

@@ -168,12 +168,18 @@ impl<B: PassBrand> Connections<B> {
         }
     }
 
-    /// Releases held output of the connection if it is committed. Returns whether it did.
-    pub(crate) fn release(&mut self, key: usize, progress: &SaveProgress, time: LoopTime) -> bool {
-        match self.slots.get_mut(key) {
-            Some(ConnectionSlot::Served(connection)) => connection.release(progress, time),
-            Some(ConnectionSlot::Closing(closing)) => closing.release(progress, time.second),
-            _ => false,
+    /// Releases held output of the connection if it is committed. Returns the number of acknowledgements
+    /// in it if it did.
+    pub(crate) fn release(
+        &mut self,
+        key: usize,
+        progress: &SaveProgress,
+        time: LoopTime,
+    ) -> Option<u64> {
+        match self.slots.get_mut(key)? {
+            ConnectionSlot::Served(connection) => connection.release(progress, time),
+            ConnectionSlot::Closing(closing) => closing.release(progress, time.second),
+            _ => None,
         }
     }
 

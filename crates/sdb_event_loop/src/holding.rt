@@ -22,12 +22,16 @@ impl<R: Net + Wait + Clock + Eprint + Copy + Drop, P: Policy + Drop, B: PassBran
         }
     }
 
-    // Releases held output of the connection if it is committed. Returns whether it did.
+    // Releases held output of the connection if it is committed, and counts the acknowledgements in it.
+    // Returns whether it did.
     fn release(&mut self, key: usize) -> bool {
-        match self.context.loops().settings.progress() {
+        let released = match self.context.loops().settings.progress() {
             Some(progress) => self.connections.release(key, progress, self.clock.time),
-            None => false,
-        }
+            None => None,
+        };
+        let tally = &mut self.buffers.output.tally;
+        tally.add_acknowledgements(released.unwrap_or(0));
+        released.is_some()
     }
 
     /// Returns whether connections are listed, and a round was committed since they were compared.

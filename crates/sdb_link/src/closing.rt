@@ -126,14 +126,14 @@ impl ClosingConnection {
         is_sent
     }
 
-    /// Releases held output if it is committed. Returns whether it did. The time of the hold doesn't
-    /// count.
-    pub fn release(&mut self, progress: &SaveProgress, second: u64) -> bool {
-        let is_released = self.link.release(progress);
-        if is_released {
+    /// Releases held output if it is committed. Returns the number of acknowledgements in it if it did.
+    /// The time of the hold doesn't count.
+    pub fn release(&mut self, progress: &SaveProgress, second: u64) -> Option<u64> {
+        let released = self.link.release(progress);
+        if released.is_some() {
             self.start = second;
         }
-        is_released
+        released
     }
 
     /// Writes pending output.

@@ -29,6 +29,8 @@ pub struct Link {
     pending: PendingOutput,
     // The ticket of held output.
     hold: Option<Ticket>,
+    // Number of acknowledgements in held output.
+    held_acknowledgements: u64,
     // The number of the last list of held connections that has the connection, or 0.
     list_number: u64,
     is_readable: bool,
@@ -43,6 +45,7 @@ impl Link {
             stream,
             pending: PendingOutput::new(alloc),
             hold: None,
+            held_acknowledgements: 0,
             list_number: 0,
             is_readable: true,
             reads_until_blocked: true,
@@ -86,15 +89,20 @@ impl Link {
         self.list_number = list_number;
     }
 
-    /// Ends the hold if its ticket is committed. Returns whether it did: the output is then pending
-    /// until [`resume`](Link::resume) writes it.
-    pub fn release(&mut self, progress: &SaveProgress) -> bool {
+    /// Records that held output has this number of acknowledgements more.
+    pub fn add_held(&mut self, acknowledgements: u64) {
+        self.held_acknowledgements = self.held_acknowledgements.saturating_add(acknowledgements);
+    }
+
+    /// Ends the hold if its ticket is committed. Returns the number of acknowledgements in the output
+    /// if it did: the output is then pending until [`resume`](Link::resume) writes it.
+    pub fn release(&mut self, progress: &SaveProgress) -> Option<u64> {
         match self.hold {
             Some(ticket) if progress.is_committed(ticket) => {
                 self.hold = None;
-                true
+                Some(std::mem::replace(&mut self.held_acknowledgements, 0))
             }
-            _ => false,
+            _ => None,
         }
     }
 
@@ -104,6 +112,7 @@ impl Link {
         match self.hold {
             Some(ticket) if !progress.is_committed(ticket) => {
                 self.hold = None;
+                self.held_acknowledgements = 0;
                 self.pending.discard()
             }
             _ => true,

@@ -129,11 +129,16 @@ impl LoopOutput {
     pub fn record_message(&mut self, stored: Option<DocumentGroup>, refused: Option<Code>) {
         self.tally.add_message();
         if stored.is_some() {
-            self.tally.add_acknowledgement();
+            self.tally.add_acknowledgements(1);
         }
         if let Some(code) = refused {
             self.tally.add_refusal(code);
         }
+    }
+
+    /// Returns the number of acknowledgements of the turn, and counts none of them.
+    pub fn take_acknowledgements(&mut self) -> u64 {
+        std::mem::replace(&mut self.tally.acknowledgements, 0)
     }
 
     /// Frees the memory of a large output.

@@ -28,8 +28,11 @@ pub const REFUSAL_REASONS: [&str; 3] = ["stopped", "no_room", "out_of_memory"];
 pub struct Tally {
     /// Number of messages received.
     pub messages: u64,
-    /// Number of submissions acknowledged.
+    /// Number of acknowledgements sent. An acknowledgement that is held isn't sent.
     pub acknowledgements: u64,
+    /// Number of subscriptions that began, and of those that ended.
+    pub subscriptions_begun: u64,
+    pub subscriptions_ended: u64,
     /// Number of refusals by code, in the order of [`CODES`].
     pub refusals: [u64; CODES.len()],
     /// Number of bytes received after handshakes.
@@ -48,6 +51,8 @@ impl Tally {
         Tally {
             messages: 0,
             acknowledgements: 0,
+            subscriptions_begun: 0,
+            subscriptions_ended: 0,
             refusals: [0; CODES.len()],
             received: 0,
             sent: 0,
@@ -61,9 +66,24 @@ impl Tally {
         self.messages = self.messages.saturating_add(1);
     }
 
-    /// Counts an acknowledgement.
-    pub fn add_acknowledgement(&mut self) {
-        self.acknowledgements = self.acknowledgements.saturating_add(1);
+    /// Counts acknowledgements.
+    pub fn add_acknowledgements(&mut self, count: u64) {
+        self.acknowledgements = self.acknowledgements.saturating_add(count);
+    }
+
+    /// Counts the subscriptions that a session has begun or ended, by its numbers of subscriptions
+    /// before and after.
+    pub fn add_subscriptions(&mut self, before: usize, after: usize) {
+        let begun = after.saturating_sub(before) as u64;
+        let ended = before.saturating_sub(after) as u64;
+        self.subscriptions_begun = self.subscriptions_begun.saturating_add(begun);
+        self.subscriptions_ended = self.subscriptions_ended.saturating_add(ended);
+    }
+
+    /// Returns the number of subscriptions that haven't ended.
+    pub fn subscriptions(&self) -> u64 {
+        self.subscriptions_begun
+            .saturating_sub(self.subscriptions_ended)
     }
 
     /// Counts a refusal.
@@ -113,6 +133,8 @@ fn add_one(counts: &mut [u64], position: Option<usize>) {
 pub struct Metrics {
     messages: AtomicU64,
     acknowledgements: AtomicU64,
+    subscriptions_begun: AtomicU64,
+    subscriptions_ended: AtomicU64,
     refusals: [AtomicU64; CODES.len()],
     received: AtomicU64,
     sent: AtomicU64,
@@ -146,6 +168,8 @@ impl Metrics {
         Metrics {
             messages: AtomicU64::new(0),
             acknowledgements: AtomicU64::new(0),
+            subscriptions_begun: AtomicU64::new(0),
+            subscriptions_ended: AtomicU64::new(0),
             refusals: array::from_fn(|_| AtomicU64::new(0)),
             received: AtomicU64::new(0),
             sent: AtomicU64::new(0),
@@ -158,6 +182,8 @@ impl Metrics {
     pub fn add(&self, tally: &mut Tally) {
         add_to(&self.messages, tally.messages);
         add_to(&self.acknowledgements, tally.acknowledgements);
+        add_to(&self.subscriptions_begun, tally.subscriptions_begun);
+        add_to(&self.subscriptions_ended, tally.subscriptions_ended);
         add_to(&self.received, tally.received);
         add_to(&self.sent, tally.sent);
         add_each(&self.refusals, &tally.refusals);
@@ -171,6 +197,8 @@ impl Metrics {
         let mut tally = Tally::new();
         tally.messages = self.messages.load(Ordering::Relaxed);
         tally.acknowledgements = self.acknowledgements.load(Ordering::Relaxed);
+        tally.subscriptions_ended = self.subscriptions_ended.load(Ordering::Relaxed);
+        tally.subscriptions_begun = self.subscriptions_begun.load(Ordering::Relaxed);
         tally.received = self.received.load(Ordering::Relaxed);
         tally.sent = self.sent.load(Ordering::Relaxed);
         load_each(&mut tally.refusals, &self.refusals);

@@ -41,10 +41,22 @@ const UPTIME: Metric = Metric {
     help: "Seconds since the server began to listen.",
 };
 
+const RESIDENT: Metric = Metric {
+    name: "process_resident_memory_bytes",
+    kind: GAUGE,
+    help: "Resident memory of the process in bytes.",
+};
+
 const CLIENTS: Metric = Metric {
     name: "navirotsohy_clients",
     kind: GAUGE,
     help: "Clients that are served.",
+};
+
+const SUBSCRIPTIONS: Metric = Metric {
+    name: "navirotsohy_subscriptions",
+    kind: GAUGE,
+    help: "Subscriptions of documents by sessions.",
 };
 
 const DOCUMENTS: Metric = Metric {
@@ -68,7 +80,7 @@ const MESSAGES: Metric = Metric {
 const ACKNOWLEDGEMENTS: Metric = Metric {
     name: "navirotsohy_acknowledgements_total",
     kind: COUNTER,
-    help: "Operations acknowledged.",
+    help: "Acknowledgements sent, with --store after their operations were saved.",
 };
 
 const RECEIVED: Metric = Metric {
@@ -128,7 +140,7 @@ const FAILURES: Metric = Metric {
 const DURATIONS: Metric = Metric {
     name: "navirotsohy_round_seconds",
     kind: HISTOGRAM,
-    help: "Seconds to write and sync a group.",
+    help: "Seconds to take, write and sync a group.",
 };
 
 const SIZES: Metric = Metric {
@@ -150,7 +162,11 @@ pub fn metrics_text(alloc: Global, status: &ServerStatus) -> Result<String, Allo
     writeln!(&mut text, "navirotsohy_info{{version=\"{VERSION}\"}} 1")?;
     write_number(&mut text, START, status.start)?;
     write_number(&mut text, UPTIME, status.uptime)?;
+    if let Some(resident) = status.resident {
+        write_number(&mut text, RESIDENT, resident)?;
+    }
     write_number(&mut text, CLIENTS, status.clients as u64)?;
+    write_number(&mut text, SUBSCRIPTIONS, status.tally.subscriptions())?;
     write_number(&mut text, DOCUMENTS, status.documents)?;
     write_number(&mut text, ENTRIES, status.saved_entries())?;
     write_tally(&mut text, &status.tally)?;

@@ -55,6 +55,8 @@ pub struct ServerStatus {
     pub start: u64,
     /// Whole seconds since then.
     pub uptime: u64,
+    /// The resident memory of the process in bytes, if the system tells it.
+    pub resident: Option<u64>,
     /// What the server has done.
     pub tally: Tally,
     /// What rounds have done, if operations are saved.
