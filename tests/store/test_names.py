@@ -1,6 +1,9 @@
 """The names of a store: links, a file that is moved while it is served, and a copy of FILE with a later FILE-wal."""
+import json
 import os
 import shutil
+import subprocess
+from pathlib import Path
 
 import pytest
 
@@ -9,6 +12,7 @@ from store.test_damage import OPERATIONS
 from support.server import END, Server
 
 TYPE = "http://sharejs.org/types/JSONv0"
+MOVED = "store: the file was moved, removed or replaced\n"
 
 
 def store_some(connection, first, last):
@@ -48,21 +52,54 @@ def test_a_second_name(program, killed, tmp_path):
     assert contents(tmp_path) == before
 
 
-def test_a_file_that_is_moved_while_it_is_served(program, tmp_path):
-    """The server writes its file and its log on. Moved together again, they have all operations."""
+def replace(file):
+    """Puts a copy in the place of a file."""
+    os.replace(shutil.copy(file, file.with_name("copy")), file)
+
+
+MOVES = {
+    "the file": lambda file: file.rename(file.with_name("moved")),
+    "its log": lambda file: log_of(file).rename(file.with_name("moved-wal")),
+    "the folder": lambda file: file.parent.rename(file.parent.with_name("moved")),
+    "a removed file": Path.unlink,
+    "a replaced file": replace,
+    "a replaced log": lambda file: replace(log_of(file)),
+}
+
+
+@pytest.mark.parametrize("options", [["--listen", "127.0.0.1:0"], ["--lines"]])
+@pytest.mark.parametrize("move", MOVES)
+def test_a_file_that_is_moved_while_it_is_served(program, tmp_path, move, options):
+    """The server ends with status 1 and one line, also if no client does anything."""
+    (tmp_path / "folder").mkdir()
+    file = tmp_path / "folder" / "store"
+    command = [program, "--store", str(file), *options]
+    pipes = {"stdin": subprocess.PIPE, "stdout": subprocess.PIPE, "stderr": subprocess.PIPE}
+    with subprocess.Popen(command, text=True, **pipes) as server:
+        try:
+            assert server.stdout.readline()
+            MOVES[move](file)
+            if options == ["--lines"]:
+                server.stdin.write(json.dumps(submission(0, create={"type": TYPE, "data": {"n": 0}})) + "\n")
+                server.stdin.flush()
+            assert server.wait(timeout=END) == 1
+            assert server.stderr.read() == MOVED
+        finally:
+            server.kill()
+
+
+def test_a_moved_file_has_what_was_saved(program, tmp_path):
+    """A refused start at the old path creates nothing. Both files have all operations until then, also apart."""
     file, moved = tmp_path / "store", tmp_path / "moved"
     with Server(program, "--store", str(file)) as server, server.enter() as connection:
         store_some(connection, 0, 3)
         file.rename(moved)
-        store_some(connection, 3, 5)
         before = sorted(tmp_path.iterdir())
         assert ended(program, file, ["--lines"])[0] == 1
         assert sorted(tmp_path.iterdir()) == before, "a refused start creates a file"
-        store_some(connection, 5, 6)
-    # (after the kill the log is at its old name, so a start at that name is refused)
-    assert ended(program, file, ["--lines"])[0] == 1
-    moved.rename(file)
-    assert ended(program, file, ["--check"]) == accepted(6)
+        assert server.process.wait(timeout=END) == 1
+        assert server.process.stderr.read() == MOVED
+    assert ended(program, moved, ["--check"]) == accepted(3)
 
 
 @pytest.mark.parametrize("between", [0, 1])

@@ -7,7 +7,7 @@ ghost use Rattle.sdb_store.specs.RestorerModel.{IsRestorer};
 ghost use Rattle.sdb_server_cli.specs.StoreModel.{HasRestoredLines, IsBackendOfLines};
 
 use sdb_cli::{STATUS_FAULT, STATUS_OK};
-use sdb_linefile::{LineFile, LineFileError, LineSink, UnreadFile};
+use sdb_linefile::{FilePlace, LineFile, LineFileError, LineSink, UnreadFile};
 use sdb_progress::RoundFailure;
 use sdb_store::{LineWriter, RestoreFault, RestoredBackend, Restorer, WriteFault};
 use sqlite::Alter;
@@ -110,15 +110,18 @@ where
 #[derive(Drop)]
 pub(crate) struct FileWriter<S: Alter> {
     pub(crate) file: LineFile<S>,
+    // Where the file was when it was opened.
+    place: FilePlace,
     // The number of entries of the group that was committed since it was asked for.
     written: Option<u64>,
 }
 
 impl<S: Alter> FileWriter<S> {
-    /// Creates the writer of a file.
-    pub(crate) fn new(file: LineFile<S>) -> FileWriter<S> {
+    /// Creates the writer of a file at this place.
+    pub(crate) fn new(file: LineFile<S>, place: FilePlace) -> FileWriter<S> {
         FileWriter {
             file,
+            place,
             written: None,
         }
     }
@@ -139,6 +142,14 @@ impl<S: Alter> LineWriter for FileWriter<S> {
     ghost trusts = { λ w. HasCleanDisk (file_state w.file) };
 
     ghost has_lines = { λ lines w. IsFileOf lines w.file };
+
+    fn check(&self) -> Result<(), WriteFault> {
+        if self.place.is_kept() {
+            Ok(())
+        } else {
+            Err(WriteFault::Moved)
+        }
+    }
 
     fn take_written(&mut self) -> Option<u64> {
         self.written.take()

@@ -9,7 +9,7 @@ use crate::stored::serve_file;
 use crate::stored_lines::answer_stored;
 use sdb_backend::Counts;
 use sdb_cli::{STATUS_FAULT, STATUS_OK};
-use sdb_linefile::{LineFile, UnreadFile};
+use sdb_linefile::{FilePlace, LineFile, UnreadFile};
 use sdb_projection::Table;
 use sqlite::Alter;
 use std::fs;
@@ -76,7 +76,8 @@ where
     }
 }
 
-/// Runs a job on its file. Returns the exit status, and the file if lines were stored in it.
+/// Runs a job on its file, which was opened at this place. Returns the exit status, and the file if
+/// lines were stored in it. A server ends with status 1 if its file is moved, removed or replaced.
 ///
 /// # Errors
 ///
@@ -84,6 +85,7 @@ where
 pub fn run_stored<R, S>(
     rt: R,
     file: UnreadFile<S>,
+    place: FilePlace,
     job: StoreJob,
 ) -> anyhow::Result<(u8, Option<LineFile<S>>)>
 where
@@ -93,7 +95,7 @@ where
     S: Alter + Drop + Send + 'static,
 {
     match job {
-        StoreJob::Serve(mode, table) => serve_stored(rt, file, mode, table),
+        StoreJob::Serve(mode, table) => serve_stored(rt, file, place, mode, table),
         StoreJob::Load(dump) => store_dump(&rt, file, dump),
     }
 }
@@ -102,6 +104,7 @@ where
 fn serve_stored<R, S>(
     rt: R,
     file: UnreadFile<S>,
+    place: FilePlace,
     mode: RunMode,
     table: Table,
 ) -> anyhow::Result<(u8, Option<LineFile<S>>)>
@@ -116,8 +119,8 @@ where
             address,
             until,
             options,
-        } => serve_file(rt, file, address, until, options, table),
-        _ => answer_stored(rt, file, &table),
+        } => serve_file(rt, file, place, address, until, options, table),
+        _ => answer_stored(rt, file, place, &table),
     }
 }
 

@@ -9,7 +9,7 @@ use crate::store_file::{FileWriter, print_store_fault, restore};
 use sdb_backend::{Counts, Host};
 use sdb_cli::{STATUS_FAULT, STATUS_OK};
 use sdb_event_loop::{LoopServer, bind_listener, listen_on_loops};
-use sdb_linefile::{LineFile, UnreadFile};
+use sdb_linefile::{FilePlace, LineFile, UnreadFile};
 use sdb_progress::{SaveProgress, SaveRecord};
 use sdb_projection::Table;
 use sdb_server::{Clock as MomentClock, SystemClock};
@@ -31,6 +31,7 @@ const END_SECONDS: u64 = 5;
 pub(crate) fn serve_file<R, S>(
     rt: R,
     file: UnreadFile<S>,
+    place: FilePlace,
     address: SocketAddr,
     until: StopCondition,
     options: ServeOptions,
@@ -48,7 +49,7 @@ where
     };
     match bind_listener(&rt, address) {
         Ok(listener) => {
-            let writer = FileWriter::new(file);
+            let writer = FileWriter::new(file, place);
             let served = Served {
                 listener,
                 until,

@@ -6,7 +6,7 @@ ghost use Rattle.sdb_store.specs.SaverModel.{saver_pass};
 use crate::store_file::{FileWriter, print_store_fault, restore};
 use sdb_backend::{Backend, Host, Pass};
 use sdb_cli::{STATUS_FAULT, STATUS_OK, exit_status};
-use sdb_linefile::{LineFile, UnreadFile};
+use sdb_linefile::{FilePlace, LineFile, UnreadFile};
 use sdb_lines::{
     CountingReader, CountingWriter, Counts, LineHandler, LineProgress, RunFault, run_lines,
 };
@@ -181,6 +181,7 @@ impl<R: Wait + std::time::Clock + Drop, W: LineWriter, O: Write> Write
 pub(crate) fn answer_stored<R, S>(
     rt: R,
     file: UnreadFile<S>,
+    place: FilePlace,
     table: &Table,
 ) -> anyhow::Result<(u8, Option<LineFile<S>>)>
 where
@@ -204,7 +205,7 @@ where
         backend: &backend,
         saver,
         number: pass.number(),
-        writer: FileWriter::new(file),
+        writer: FileWriter::new(file, place),
         output: io::writer(&rt),
         fault: None,
     };

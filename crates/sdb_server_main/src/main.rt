@@ -4,7 +4,7 @@
 
 use sdb_cli::STATUS_FAULT;
 use sdb_linefile::{
-    LineFileError, close, open_copy, open_online_copy, open_or_create, open_sound_copy,
+    FilePlace, LineFileError, close, open_copy, open_online_copy, open_or_create, open_sound_copy,
 };
 use sdb_server_cli::{
     LoadedDump, ParsedArgs, RunMode, StorePaths, backup_lines, is_new_path, parse_run, prepare_job,
@@ -37,7 +37,11 @@ fn main(rt: HostRuntime) -> anyhow::Result<ExitCode> {
         Ok(file) => file,
         Err(error) => return Ok(ExitCode::from(print_file_fault(&rt, path.as_str(), error)?)),
     };
-    let (status, file) = run_stored(rt, file, job)?;
+    let place = match FilePlace::find(&rt, path.as_str()) {
+        Ok(place) => place,
+        Err(error) => return Ok(ExitCode::from(print_file_fault(&rt, path.as_str(), error)?)),
+    };
+    let (status, file) = run_stored(rt, file, place, job)?;
     let closed = match file {
         Some(file) => close(file),
         None => Ok(()),

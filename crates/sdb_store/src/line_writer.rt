@@ -8,6 +8,8 @@ pub enum WriteFault {
     Retry(RoundFailure),
     /// No call will succeed. A part of the group may be written.
     Closed,
+    /// The journal was moved, removed or replaced. Nothing is written.
+    Moved,
 }
 
 /// A journal to which groups of lines are appended.
@@ -20,6 +22,13 @@ pub trait LineWriter {
 
     // Each crash leaves exactly these lines.
     ghost has_lines: { List (List ℕ) → Self → Type 0 };
+
+    /// Checks that the journal is where it was when it was opened.
+    ///
+    /// # Errors
+    ///
+    /// [`WriteFault::Moved`] if it was moved, removed or replaced.
+    fn check(&self) -> Result<(), WriteFault>;
 
     /// Returns the number of entries of the group that was committed since the last call, if one was.
     fn take_written(&mut self) -> Option<u64>;

@@ -31,6 +31,9 @@ pub enum SaveFault {
     /// The journal is closed by a failure.
     #[error("the journal is closed by a failure")]
     Closed,
+    /// The journal was moved, removed or replaced.
+    #[error("the file was moved, removed or replaced")]
+    Moved,
     /// The list of stored entries isn't complete.
     #[error("the list of stored entries isn't complete")]
     Incomplete,
@@ -66,6 +69,7 @@ impl From<WriteFault> for SaveFault {
         match fault {
             WriteFault::Retry(failure) => SaveFault::Retry(failure),
             WriteFault::Closed => SaveFault::Closed,
+            WriteFault::Moved => SaveFault::Moved,
         }
     }
 }
@@ -115,9 +119,9 @@ impl Saver {
     ///
     /// # Errors
     ///
-    /// [`SaveFault::Retry`], [`SaveFault::Closed`] if the writer fails, [`SaveFault::OutOfMemory`] if
-    /// an allocation fails, [`SaveFault::Incomplete`] if the backend's list isn't complete, and
-    /// [`SaveFault::OutOfNumbers`] if a journal can't have the number.
+    /// [`SaveFault::Retry`], [`SaveFault::Closed`] or [`SaveFault::Moved`] if the writer fails,
+    /// [`SaveFault::OutOfMemory`] if an allocation fails, [`SaveFault::Incomplete`] if the backend's list
+    /// isn't complete, and [`SaveFault::OutOfNumbers`] if a journal can't have the number.
     pub fn save_round<R: Wait + Drop, W: LineWriter>(
         &mut self,
         backend: &Backend<R>,
@@ -217,7 +221,7 @@ impl Saver {
         read_line(self.alloc, backend, &mut self.pass, place)
     }
 
-    // Writes the group. After a failure it is kept.
+    // Writes the group, if it has lines. After a failure it is kept.
     fn write_group<W: LineWriter>(&mut self, writer: &mut W) -> Result<(), SaveFault>
         ensures pass { saver_pass self.new ≡ saver_pass self.old }
         ensures places_unchanged { places_left self.new ≡ places_left self.old }
@@ -229,6 +233,7 @@ impl Saver {
             ⊎ IsIn (number_line (reserved_number self.new)) (unwritten_lines self.old))) }
         ensures unchanged_on_err { OnErr result (self.new ≡ self.old) }
     {
+        writer.check()?;
         if self.group.is_empty() {
             return Ok(());
         }
