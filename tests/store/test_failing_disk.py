@@ -3,7 +3,7 @@ import errno
 import http.client
 import json
 import pathlib
-import shutil
+import re
 import subprocess
 import threading
 import time
@@ -11,6 +11,7 @@ import time
 import pytest
 
 from store.test_lines import logs_of
+from support.disks import library_of
 from support.frames import Connection, Fault, text
 from support.server import END, Server
 
@@ -33,11 +34,7 @@ FAULTS = {
 
 @pytest.fixture(scope="module")
 def disk(tmp_path_factory):
-    if not shutil.which("cc"):
-        pytest.skip("no C compiler")
-    library = tmp_path_factory.mktemp("disk") / "disk.so"
-    subprocess.run(["cc", "-O1", "-Wall", "-shared", "-fPIC", "-o", library, DISK, "-ldl"], check=True)
-    return str(library)
+    return library_of(DISK, tmp_path_factory.mktemp("disk"))
 
 
 class Disk(Server):
@@ -49,10 +46,17 @@ class Disk(Server):
         variables["FAILED"] = str(self.failed)
         super().__init__(program, "--until-eof", "--store", str(self.store), *options, environment={**variables, **settings})
 
-    def health(self):
+    def page(self, path):
         connection = http.client.HTTPConnection(*self.address, timeout=END)
-        connection.request("GET", "/health")
-        return json.loads(connection.getresponse().read())
+        connection.request("GET", path)
+        return connection.getresponse().read().decode()
+
+    def health(self):
+        return json.loads(self.page("/health"))
+
+    def acknowledged(self):
+        """Returns the number of acknowledgements that were sent."""
+        return int(re.search(r"^navirotsohy_acknowledgements_total (\d+)$", self.page("/metrics"), re.M)[1])
 
 
 def submission(document, version, source):
@@ -151,8 +155,8 @@ def test_a_stop_while_the_disk_is_full(program, disk, tmp_path):
         server.full.touch()
         held.send(text(submission("1", 1, "x")))
         time.sleep(2)
-        # (both are counted, of which one isn't saved)
-        assert server.health()["entries"] == 2
+        # (the one that isn't saved isn't counted)
+        assert server.health()["entries"] == 1
         server.process.stdin.close()
         assert held.status(LATE) == 1001
         assert server.process.wait(timeout=HOLD + 2 * LATE) == 1
@@ -166,9 +170,12 @@ def test_the_end_of_a_disk_that_is_full_for_a_moment(program, disk, tmp_path):
         server.full.touch()
         held.send(text(submission("1", 1, "x")))
         time.sleep(1)
+        assert server.acknowledged() == 1
         server.full.unlink()
         held.socket.settimeout(END)
         assert held.message()["v"] == 1
+        time.sleep(1)
+        assert server.acknowledged() == 2
         assert server.failed.stat().st_size > 0
         server.process.stdin.close()
         assert held.status(LATE) == 1001

@@ -2,11 +2,11 @@
 import json
 import os
 import pathlib
-import shutil
 import subprocess
 
 import pytest
 
+from support.disks import library_of
 from support.server import END
 
 TYPE = "http://sharejs.org/types/JSONv0"
@@ -129,11 +129,7 @@ def test_refused_command_lines(program, tmp_path, options):
 
 @pytest.fixture(scope="module")
 def disk(tmp_path_factory):
-    if not shutil.which("cc"):
-        pytest.skip("no C compiler")
-    library = tmp_path_factory.mktemp("disk") / "disk.so"
-    subprocess.run(["cc", "-O1", "-Wall", "-shared", "-fPIC", "-o", library, DISK, "-ldl"], check=True)
-    return str(library)
+    return library_of(DISK, tmp_path_factory.mktemp("disk"))
 
 
 def acknowledged(program, disk, file, groups, stop_at, seed):
