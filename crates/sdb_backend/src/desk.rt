@@ -33,7 +33,7 @@ impl<R: Wait + Drop> Desk for Backend<R> {
 
     ghost step = { λ b k c p a q. AnsweredAtExtension k c p a q };
 
-    ghost caches_step = { λ b k c p q. ForgetsCache k c q };
+    ghost caches_step = { λ b k c p a q. ForgetsCache k c q };
 
     ghost has_seen = { λ b k a p. IsLookSeenBy p k a };
 

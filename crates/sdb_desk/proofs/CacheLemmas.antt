@@ -10,7 +10,7 @@ use Rattle.sdb_oplog.specs.laws.LogLaws.{decide_extends, made_of_decide}
 use Rattle.sdb_snapcache.specs.CacheModel.{Snapshot, nearest, promote_nearest, insert_front}
 use Rattle.sdb_snapcache.specs.SnapInvariant.{IsSnapOf, AreSnapsOf}
 use Rattle.sdb_snapcache.specs.laws.CacheLaws.{snap_of_nearest, nearest_not_above, snaps_of_promoted_nearest, snaps_of_inserted, snaps_of_extension}
-use Rattle.sdb_desk.specs.Reads.{CacheAfterOffer, CacheAfterRead}
+use Rattle.sdb_desk.specs.Reads.{CacheAfterOffer}
 use Rattle.sdb_desk.specs.DocumentModel.{IsDocument, IsReplayStart}
 
 -- with another cache of snapshots
@@ -78,7 +78,3 @@ above_zero log zero kept (Some s) snaps e some =
     let z : s.version ≡ 0 = omega (arith, n) in
     let at : snap (take 0 log) ≡ Some (Some s.value) = ap (λ k. snap (take k log)) (sym z) ∙ (snap_of_nearest log 0 kept s snaps e).is in
     nothing_at_zero log s.value at
-
--- the cache after the nearest snapshot was used without a replay
-pub used_only : (log : List PlainEntry) (v : ℕ) (kept new : List Snapshot) → v < length log → new ≡ promote_nearest v kept → CacheAfterRead log v kept new
-used_only log v kept new below is = inr (below, offers_none (document_of (take v log)) v (promote_nearest v kept) new is)

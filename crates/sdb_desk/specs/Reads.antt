@@ -1,5 +1,5 @@
 -- The effect of a read by version on the snapshot cache.
-use Rattle.std.specs.Prelude.{◌≡◌, ℕ, ◌+◌, ◌<◌, ◌≤◌, min, List, length, take, drop, Option, Some, None, ◌⊎◌}
+use Rattle.std.specs.Prelude.{◌≡◌, ℕ, ◌+◌, ◌<◌, ◌≤◌, min, List, length, take, drop, Option, Some, None, Result, Ok, Err, ◌⊎◌}
 use Rattle.sdb_value.specs.Value.{Value}
 use Rattle.sdb_oplog.specs.Plain.{PlainEntry}
 use Rattle.sdb_oplog.specs.Snap.{document_of, snap_from}
@@ -11,12 +11,17 @@ abbrev pub CacheAfterOffer : ℕ → Option Value → List Snapshot → List Sna
 CacheAfterOffer v None kept new = new ≡ kept
 CacheAfterOffer v (Some d) kept new = (new ≡ insert_front v d kept) ⊎ (new ≡ kept)
 
--- the cache after a read: an older document uses the nearest snapshot and is offered; the current version and a version
--- above it use none
-abbrev pub CacheAfterRead : List PlainEntry → ℕ → List Snapshot → List Snapshot → Type 0
-CacheAfterRead log v kept new =
+-- the cache after the nearest snapshot was used; the current version and a version above it use none
+abbrev pub CacheAfterUse : List PlainEntry → ℕ → List Snapshot → List Snapshot → Type 0
+CacheAfterUse log v kept new = ((length log ≤ v) × (new ≡ kept)) ⊎ ((v < length log) × (new ≡ promote_nearest v kept))
+
+-- the cache after a read with this result: an older document uses the nearest snapshot and is offered; a refused read
+-- offers nothing
+abbrev pub CacheAfterRead : {A E : Type 0} → List PlainEntry → ℕ → Result A E → List Snapshot → List Snapshot → Type 0
+CacheAfterRead log v (Ok a) kept new =
     ((length log ≤ v) × (new ≡ kept))
     ⊎ ((v < length log) × CacheAfterOffer v (document_of (take v log)) (promote_nearest v kept) new)
+CacheAfterRead log v (Err e) kept new = CacheAfterUse log v kept new
 
 -- ---- replay bases
 
@@ -42,7 +47,3 @@ pub record IsReplayBaseUpTo (log : List PlainEntry) (v max : ℕ) (l : PlainRepl
 abbrev pub IsCachedReplayBase : List PlainEntry → List Snapshot → ℕ → PlainReplayBase → Type 0
 IsCachedReplayBase log kept v l =
     ((length log ≤ v) × (l.version ≡ v)) ⊎ ((v < length log) × IsReplayStart (nearest v kept) l.version l.snapshot)
-
--- the cache after the nearest snapshot was used
-abbrev pub CacheAfterUse : List PlainEntry → ℕ → List Snapshot → List Snapshot → Type 0
-CacheAfterUse log v kept new = ((length log ≤ v) × (new ≡ kept)) ⊎ ((v < length log) × (new ≡ promote_nearest v kept))

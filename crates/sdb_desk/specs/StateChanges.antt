@@ -24,9 +24,9 @@ OnlyCacheChanges k C old new = C (old.caches k) (new.caches k) × (new ≡ with_
 abbrev pub OnlySlotCacheChanges : (List Snapshot → List Snapshot → Type 0) → PlainSlot → PlainSlot → Type 0
 OnlySlotCacheChanges C old new = C old.document.cache new.document.cache × (new ≡ slot_with_cache old new.document.cache)
 
--- a read at a version
-abbrev pub StateAfterRead : PlainKey → ℕ → ShardState → ShardState → Type 0
-StateAfterRead k v old new = OnlyCacheChanges k (CacheAfterRead (old.logs k) v) old new
+-- a read at a version, with this result
+abbrev pub StateAfterRead : {A E : Type 0} → PlainKey → ℕ → Result A E → ShardState → ShardState → Type 0
+StateAfterRead k v r old new = OnlyCacheChanges k (CacheAfterRead (old.logs k) v r) old new
 
 -- the nearest snapshot of a version is used
 abbrev pub StateAfterUse : PlainKey → ℕ → ShardState → ShardState → Type 0

@@ -147,7 +147,7 @@ impl Document {
         ensures err { IfErr result (λ code. code ≡ E10) }
         ensures memory { OnErr result (0 < version) }
         ensures log { self.new.log ≡ self.old.log }
-        ensures cache { CacheAfterRead self.old.log version self.old.cache self.new.cache }
+        ensures cache { CacheAfterRead self.old.log version result self.old.cache self.new.cache }
     {
         if version == self.log().len() {
             return Ok(self.freeze(alloc)?);

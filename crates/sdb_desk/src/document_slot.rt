@@ -122,7 +122,7 @@ impl DocumentSlot {
             (λ d. snap (take version self.old.document.log) ≡ Some (option_map value_of d)) }
         ensures err { IfErr result (λ code. code ≡ E10) }
         ensures memory { OnErr result (0 < version) }
-        ensures cache { OnlySlotCacheChanges (CacheAfterRead self.old.document.log version)
+        ensures cache { OnlySlotCacheChanges (CacheAfterRead self.old.document.log version result)
             self.old self.new }
     {
         match &mut self.document {

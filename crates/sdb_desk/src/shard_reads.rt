@@ -123,7 +123,7 @@ impl Shard {
     /// # Errors
     ///
     /// [`Code::E4`] if the version is above the current one, [`Code::E10`] if an allocation fails
-    /// at a version above 0. No log and no queue changes.
+    /// at a version above 0. Nothing changes, except for the order of use of the cached snapshots.
     ///
     /// ```
     /// // The only entry creates the document, so version 0 has none.
@@ -136,7 +136,7 @@ impl Shard {
             (snapshot_at (log_at self.old key.now) version) }
         ensures cache { StateAfterRead (plain_key key.now)
             (unwrap_or version (length (log_at self.old key.now)))
-            (state_of self.old) (state_of self.new) }
+            (fetch_result_view result) (state_of self.old) (state_of self.new) }
     {
         let present = self.version(key);
         let version = version.unwrap_or(present);
@@ -152,7 +152,8 @@ impl Shard {
     ///
     /// # Errors
     ///
-    /// [`Code::E10`] if an allocation fails at a version above 0. No log and no queue changes.
+    /// [`Code::E10`] if an allocation fails at a version above 0. Nothing changes, except for the
+    /// order of use of the cached snapshots.
     pub fn snapshot_at_time(
         &mut self,
         key: &Key,
@@ -162,7 +163,7 @@ impl Shard {
             (Ok (fetch_at_moment (log_at self.old key.now) moment)) }
         ensures cache { StateAfterRead (plain_key key.now)
             (version_at_moment (log_at self.old key.now) moment)
-            (state_of self.old) (state_of self.new) }
+            (fetch_result_view result) (state_of self.old) (state_of self.new) }
     {
         let version = self.version_at(key, moment);
         Ok(FetchResult {
@@ -178,7 +179,7 @@ impl Shard {
             (λ d. document_of (take version (log_at self.old key.now)) ≡ option_map value_of d) }
         ensures err { IfErr result (λ code. code ≡ E10) }
         ensures memory { OnErr result (0 < version) }
-        ensures cache { StateAfterRead (plain_key key.now) version
+        ensures cache { StateAfterRead (plain_key key.now) version result
             (state_of self.old) (state_of self.new) }
     {
         match self.slots.get_mut(key) {

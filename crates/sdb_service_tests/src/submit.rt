@@ -72,7 +72,7 @@ impl Desk for ContendedStore {
     ghost step = { λ d k c p a q.
         (l : Logs) × ((n : QueuesByKey) × MachineStep 0 (record { logs = l; queues = n }) k c a (machine_of q.shard)) };
 
-    ghost caches_step = { λ d k c p q. ⊤ };
+    ghost caches_step = { λ d k c p a q. ⊤ };
 
     ghost has_seen = { λ d k a p. IsLook (logs_of p.shard k) a };
 

@@ -30,7 +30,7 @@ empty_world = record { machine = empty_machine; sessions = empty_sessions; cache
 -- one step of a session is one of the machine and the sessions, and only a read at a version and `forget` change a cache
 pub record IsWorldStep (old : PlainWorld) (s : PlainSessionStep) (answer : PlainStepAnswer) (new : PlainWorld) : Type 0 where
   pub step : IsStep old.machine old.sessions s answer new.machine new.sessions
-  pub caches : CachesAfterAct old.machine.logs s.act old.caches new.caches
+  pub caches : CachesAfterAct old.machine.logs s.act answer old.caches new.caches
 
 abbrev pub one_step_of_world : World → OneStep
 one_step_of_world w = (plain_world w).machine

@@ -4,7 +4,7 @@ ghost use Rattle.sdb_oplog.specs.Keys.{plain_key};
 ghost use Rattle.sdb_desk.specs.Machine.{version_at_moment};
 ghost use Rattle.sdb_desk.specs.ShardView.{state_of, logs_of, log_at, caches_of, queues_of};
 ghost use Rattle.sdb_desk.specs.StateChanges.{StateAfterRead};
-ghost use Rattle.sdb_steps.specs.Caches.{CachesAfterAct};
+ghost use Rattle.sdb_steps.specs.Caches.{CachesAfterAct, read_result};
 ghost use Rattle.sdb_steps.specs.LookInvariant.{HasLookAt};
 ghost use Rattle.sdb_steps.specs.Picks as plain;
 ghost use Rattle.sdb_steps.specs.Dispatch.{DispatchesAct, AttemptBegins};
@@ -37,8 +37,8 @@ pub(crate) fn dispatch(
     ensures other_queues_unchanged { OtherQueuesUnchanged (plain_session_step step.now).session (queues_of shard.old)
         (queue_slots_of session.old)
         (queues_of shard.new) (queue_slots_of session.new) }
-    ensures caches { CachesAfterAct (logs_of shard.old) (plain_session_step step.now).act (caches_of shard.old)
-        (caches_of shard.new) }
+    ensures caches { CachesAfterAct (logs_of shard.old) (plain_session_step step.now).act
+        (plain_step_answer result) (caches_of shard.old) (caches_of shard.new) }
 {
     match step {
         Step::Begin {
@@ -146,7 +146,8 @@ fn snapshot(shard: &mut Shard, key: &Key, version: Option<u64>) -> StepAnswer
     ensures dispatches { (i : ℕ) (x : plain.SessionState) → DispatchesAct i (one_step_of_shard shard.old) x
         (plain.snapshot (plain_key key.now) version) (plain_step_answer result) (one_step_of_shard shard.new) x }
     ensures cache { StateAfterRead (plain_key key.now)
-        (unwrap_or version (length (log_at shard.old key.now))) (state_of shard.old) (state_of shard.new) }
+        (unwrap_or version (length (log_at shard.old key.now)))
+        (read_result (plain_step_answer result)) (state_of shard.old) (state_of shard.new) }
 {
     match shard.snapshot_at(key, version) {
         Ok(fetched) => StepAnswer::SnapshotFetched(Ok(fetched)),
@@ -159,7 +160,8 @@ fn snapshot_at_time(shard: &mut Shard, key: &Key, moment: Option<Moment>) -> Ste
     ensures dispatches { (i : ℕ) (x : plain.SessionState) → DispatchesAct i (one_step_of_shard shard.old) x
         (plain.snapshot_at_time (plain_key key.now) moment) (plain_step_answer result) (one_step_of_shard shard.new) x }
     ensures cache { StateAfterRead (plain_key key.now)
-        (version_at_moment (log_at shard.old key.now) moment) (state_of shard.old) (state_of shard.new) }
+        (version_at_moment (log_at shard.old key.now) moment)
+        (read_result (plain_step_answer result)) (state_of shard.old) (state_of shard.new) }
 {
     match shard.snapshot_at_time(key, moment) {
         Ok(fetched) => StepAnswer::MomentFetched(fetched),

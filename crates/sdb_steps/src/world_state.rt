@@ -56,7 +56,7 @@ impl WorldState {
             (plain_session_step step.now) (plain_step_answer result)
             (one_step_of_shard self.new.shard) (session_states_of (queues_of self.new.shard) self.new.sessions.items) }
         ensures caches { CachesAfterAct (logs_of self.old.shard) (plain_session_step step.now).act
-            (caches_of self.old.shard) (caches_of self.new.shard) }
+            (plain_step_answer result) (caches_of self.old.shard) (caches_of self.new.shard) }
     {
         let number = step.session().number as usize;
         dispatch(

@@ -103,22 +103,23 @@ MachineStep by m k (unsubscribe n) u new =
 
 -- ---- snapshot caches
 
--- a read at a version uses and changes the cache of its key alone
-abbrev pub CachesAfterRead : PlainKey → Logs → ℕ → CachesByKey → CachesByKey → Type 0
-CachesAfterRead k logs v old new = CacheAfterRead (logs k) v (old k) (new k) × (new ≡ with_value_at_key old k (new k))
+-- a read at a version, with this result, uses and changes the cache of its key alone
+abbrev pub CachesAfterRead : PlainKey → Logs → ℕ → Result PlainFetchResult Code → CachesByKey → CachesByKey → Type 0
+CachesAfterRead k logs v r old new = CacheAfterRead (logs k) v r (old k) (new k) × (new ≡ with_value_at_key old k (new k))
 
--- the caches after a call of a key, with these logs before it; only a read at a version and `forget` change one
-abbrev pub CachesAfterCall : PlainKey → Logs → PlainCall → CachesByKey → CachesByKey → Type 0
-CachesAfterCall k logs (look s) old new = new ≡ old
-CachesAfterCall k logs (commit a now) old new = new ≡ old
-CachesAfterCall k logs (commit_now s now) old new = new ≡ old
-CachesAfterCall k logs current_version old new = new ≡ old
-CachesAfterCall k logs fetch old new = new ≡ old
-CachesAfterCall k logs (ops_from v) old new = new ≡ old
-CachesAfterCall k logs (ops_between v w) old new = new ≡ old
-CachesAfterCall k logs (snapshot v) old new = CachesAfterRead k logs (unwrap_or v (length (logs k))) old new
-CachesAfterCall k logs (snapshot_at_time t) old new = CachesAfterRead k logs (version_at_moment (logs k) t) old new
-CachesAfterCall k logs forget old new = new ≡ with_value_at_key old k []
-CachesAfterCall k logs (subscribe v) old new = new ≡ old
-CachesAfterCall k logs (take_next n max) old new = new ≡ old
-CachesAfterCall k logs (unsubscribe n) old new = new ≡ old
+-- the caches after a call of a key with this answer, and with these logs before it; only a read at a version and `forget`
+-- change one
+abbrev pub CachesAfterCall : PlainKey → Logs → (c : PlainCall) → CallAnswer c → CachesByKey → CachesByKey → Type 0
+CachesAfterCall k logs (look s) o old new = new ≡ old
+CachesAfterCall k logs (commit a now) o old new = new ≡ old
+CachesAfterCall k logs (commit_now s now) r old new = new ≡ old
+CachesAfterCall k logs current_version v old new = new ≡ old
+CachesAfterCall k logs fetch r old new = new ≡ old
+CachesAfterCall k logs (ops_from v) r old new = new ≡ old
+CachesAfterCall k logs (ops_between v w) r old new = new ≡ old
+CachesAfterCall k logs (snapshot v) r old new = CachesAfterRead k logs (unwrap_or v (length (logs k))) r old new
+CachesAfterCall k logs (snapshot_at_time t) r old new = CachesAfterRead k logs (version_at_moment (logs k) t) r old new
+CachesAfterCall k logs forget u old new = new ≡ with_value_at_key old k []
+CachesAfterCall k logs (subscribe v) r old new = new ≡ old
+CachesAfterCall k logs (take_next n max) r old new = new ≡ old
+CachesAfterCall k logs (unsubscribe n) u old new = new ≡ old

@@ -16,10 +16,10 @@ module _ {D P : Type 0} (accepts : D → P → Type 0) (number : D → P → ℕ
     pub number_unchanged : number desk new ≡ number desk old
 
 module _ {D P : Type 0} (accepts : D → P → Type 0) (number : D → P → ℕ)
-    (steps : D → PlainKey → (c : PlainCall) → P → CallAnswer c → P → Type 0) (caches_step : D → PlainKey → PlainCall → P → P → Type 0)
+    (steps caches_step : D → PlainKey → (c : PlainCall) → P → CallAnswer c → P → Type 0)
   where
     -- a call at a key: the pass before it, its answer, and the pass after it with its snapshot caches
     pub record IsCall (desk : D) (k : PlainKey) (c : PlainCall) (p : P) (a : CallAnswer c) (q : P) : Type 0 where
       pub pass : IsNextPass accepts number desk p q
       pub step : steps desk k c p a q
-      pub caches : caches_step desk k c p q
+      pub caches : caches_step desk k c p a q

@@ -33,8 +33,8 @@ pub trait Desk {
     // How a call at a key relates the pass before, the answer and the pass after.
     ghost step: { Self → PlainKey → (c : PlainCall) → Self.Pass → CallAnswer c → Self.Pass → Type 0 };
 
-    // How a call at a key relates the pass before and the pass after, by their snapshot caches.
-    ghost caches_step: { Self → PlainKey → PlainCall → Self.Pass → Self.Pass → Type 0 };
+    // How a call at a key relates the snapshot caches before, the answer and the caches after.
+    ghost caches_step: { Self → PlainKey → (c : PlainCall) → Self.Pass → CallAnswer c → Self.Pass → Type 0 };
 
     // The attempt's look at a key is one that the pass has observed.
     ghost has_seen: { Self → PlainKey → PlainAttempt → Self.Pass → Type 0 };

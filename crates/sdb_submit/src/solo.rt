@@ -23,7 +23,7 @@ impl Desk for Solo {
 
     ghost step = { λ d k c p a q. MachineStep 0 (machine_of p) k c a (machine_of q) };
 
-    ghost caches_step = { λ d k c p q. CachesAfterCall k (logs_of p) c (caches_of p) (caches_of q) };
+    ghost caches_step = { λ d k c p a q. CachesAfterCall k (logs_of p) c a (caches_of p) (caches_of q) };
 
     ghost has_seen = { λ d k a p. IsLook (logs_of p k) a };
 

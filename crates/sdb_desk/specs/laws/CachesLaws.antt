@@ -1,5 +1,5 @@
 -- Laws of caches: each cached snapshot stays one of its log.
-use Rattle.std.proofs.Common.{◌≡◌, ℕ, ◌≤◌, List, [], ◌++◌, length, take, Bool, true, false, cond, Option, Some, None, unwrap_or, inl, inr, refl, sym, ap, subst, arith}
+use Rattle.std.proofs.Common.{◌≡◌, ℕ, ◌≤◌, List, [], ◌++◌, length, take, Bool, true, false, cond, Option, Some, None, unwrap_or, Result, Ok, Err, inl, inr, refl, sym, ap, subst, arith}
 use Rattle.sdb_value.specs.Value.{Value}
 use Rattle.sdb_oplog.specs.Plain.{PlainEntry}
 use Rattle.sdb_oplog.specs.Keys.{PlainKey, Logs, keys_equal, with_value_at_key}
@@ -7,7 +7,7 @@ use Rattle.sdb_oplog.specs.Snap.{snap, document_of}
 use Rattle.sdb_snapcache.specs.CacheModel.{Snapshot, promote_nearest}
 use Rattle.sdb_snapcache.specs.SnapInvariant.{AreSnapsOf}
 use Rattle.sdb_snapcache.specs.laws.CacheLaws.{snaps_of_promoted_nearest, snaps_of_inserted, snaps_of_extension}
-use Rattle.sdb_desk.specs.Reads.{CacheAfterOffer, CacheAfterRead}
+use Rattle.sdb_desk.specs.Reads.{CacheAfterOffer, CacheAfterUse, CacheAfterRead}
 use Rattle.sdb_desk.specs.ShardState.{CachesByKey, AreCachesOf}
 use Rattle.sdb_desk.specs.laws.KeyLaws.{eq_of_keys_equal}
 
@@ -23,9 +23,14 @@ snaps_after_offer log v (Some d) kept new within is snaps (inl h) =
     subst (AreSnapsOf log) (sym h) (snaps_of_inserted log v d kept (record { within = within; is = snapped (snap (take v log)) d is }) snaps)
 snaps_after_offer log v (Some d) kept new within is snaps (inr h) = subst (AreSnapsOf log) (sym h) snaps
 
-pub snaps_after_read : (log : List PlainEntry) (v : ℕ) (kept new : List Snapshot) → AreSnapsOf log kept → CacheAfterRead log v kept new → AreSnapsOf log new
-snaps_after_read log v kept new snaps (inl h) = subst (AreSnapsOf log) (sym h.1) snaps
-snaps_after_read log v kept new snaps (inr h) =
+snaps_after_use : (log : List PlainEntry) (v : ℕ) (kept new : List Snapshot) → AreSnapsOf log kept → CacheAfterUse log v kept new → AreSnapsOf log new
+snaps_after_use log v kept new snaps (inl h) = subst (AreSnapsOf log) (sym h.1) snaps
+snaps_after_use log v kept new snaps (inr h) = subst (AreSnapsOf log) (sym h.1) (snaps_of_promoted_nearest log v kept snaps)
+
+pub snaps_after_read : {A E : Type 0} (log : List PlainEntry) (v : ℕ) (r : Result A E) (kept new : List Snapshot) → AreSnapsOf log kept → CacheAfterRead log v r kept new → AreSnapsOf log new
+snaps_after_read log v (Err e) kept new snaps h = snaps_after_use log v kept new snaps h
+snaps_after_read log v (Ok a) kept new snaps (inl h) = subst (AreSnapsOf log) (sym h.1) snaps
+snaps_after_read log v (Ok a) kept new snaps (inr h) =
     let below = h.0 in
     snaps_after_offer log v (document_of (take v log)) (promote_nearest v kept) new (omega (arith, below)) refl (snaps_of_promoted_nearest log v kept snaps) h.1
 

@@ -16,7 +16,7 @@ use Rattle.sdb_submit.specs.Calls.{MachineStep, CachesAfterCall, PlainCall, Call
 -- a call under a number, as one of the machine and of the caches
 pub record IsCallOfState (by : ℕ) (old : ShardState) (k : PlainKey) (c : PlainCall) (a : CallAnswer c) (new : ShardState) : Type 0 where
   pub step : MachineStep by (machine_of_state old) k c a (machine_of_state new)
-  pub caches : CachesAfterCall k old.logs c old.caches new.caches
+  pub caches : CachesAfterCall k old.logs c a old.caches new.caches
 
 module _ (by : ℕ) (k : PlainKey) (old new : ShardState) where
   pub commit_call : (a : PlainAttempt) (now : ℕ) (o : PlainOutcome) → StateAfterCommit k a now o old new → IsCallOfState by old k (call.commit a now) o new
@@ -29,11 +29,11 @@ module _ (by : ℕ) (k : PlainKey) (old new : ShardState) where
   fetch_call r h e = record { step = (h, machine_unchanged old new e); caches = ap (λ s. s.caches) e }
 
   pub snapshot_call : (v : Option ℕ) (r : Result PlainFetchResult Code) → ReadOrOutOfMemory read_has_version r (snapshot_at (old.logs k) v)
-      → StateAfterRead k (unwrap_or v (length (old.logs k))) old new → IsCallOfState by old k (call.snapshot v) r new
+      → StateAfterRead k (unwrap_or v (length (old.logs k))) r old new → IsCallOfState by old k (call.snapshot v) r new
   snapshot_call v r h e = record { step = (h, machine_of_cache_change k old new e.1); caches = (e.0, ap (λ s. s.caches) e.1) }
 
   pub snapshot_at_time_call : (t : Option ℕ) (r : Result PlainFetchResult Code) → ReadOrOutOfMemory read_has_version r (Ok (fetch_at_moment (old.logs k) t))
-      → StateAfterRead k (version_at_moment (old.logs k) t) old new → IsCallOfState by old k (call.snapshot_at_time t) r new
+      → StateAfterRead k (version_at_moment (old.logs k) t) r old new → IsCallOfState by old k (call.snapshot_at_time t) r new
   snapshot_at_time_call t r h e = record { step = (h, machine_of_cache_change k old new e.1); caches = (e.0, ap (λ s. s.caches) e.1) }
 
   pub forget_call : new ≡ with_cache old k [] → IsCallOfState by old k call.forget tt new

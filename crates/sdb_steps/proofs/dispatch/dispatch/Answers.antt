@@ -81,11 +81,11 @@ returns-in-Work-clause-has_look c = c.work.ensures.has_look (logs_of c.args.shar
 
 pub returns-in-Snapshot-clause-caches : goal.returns-in-Snapshot-clause-caches
 returns-in-Snapshot-clause-caches c =
-    subst (λ (z : Step). CachesAfterAct (logs_of c.args.shard.now) (plain_session_step z).act (caches_of c.args.shard.now) (caches_of c.snapshot.new.shard)) (sym c.in-Snapshot.is) (c.snapshot.ensures.cache.0, ap (λ s. s.caches) c.snapshot.ensures.cache.1)
+    subst (λ (z : Step). CachesAfterAct (logs_of c.args.shard.now) (plain_session_step z).act (plain_step_answer c.snapshot.result) (caches_of c.args.shard.now) (caches_of c.snapshot.new.shard)) (sym c.in-Snapshot.is) (c.snapshot.ensures.cache.0, ap (λ s. s.caches) c.snapshot.ensures.cache.1)
 
 pub returns-in-SnapshotAtTime-clause-caches : goal.returns-in-SnapshotAtTime-clause-caches
 returns-in-SnapshotAtTime-clause-caches c =
-    subst (λ (z : Step). CachesAfterAct (logs_of c.args.shard.now) (plain_session_step z).act (caches_of c.args.shard.now) (caches_of c.snapshot_at_time.new.shard)) (sym c.in-SnapshotAtTime.is) (c.snapshot_at_time.ensures.cache.0, ap (λ s. s.caches) c.snapshot_at_time.ensures.cache.1)
+    subst (λ (z : Step). CachesAfterAct (logs_of c.args.shard.now) (plain_session_step z).act (plain_step_answer c.snapshot_at_time.result) (caches_of c.args.shard.now) (caches_of c.snapshot_at_time.new.shard)) (sym c.in-SnapshotAtTime.is) (c.snapshot_at_time.ensures.cache.0, ap (λ s. s.caches) c.snapshot_at_time.ensures.cache.1)
 
 pub returns-in-Work-clause-dispatches : goal.returns-in-Work-clause-dispatches
 returns-in-Work-clause-dispatches c =
@@ -153,7 +153,7 @@ returns-in-Subscribe-clause-other_queues_unchanged c =
 
 pub returns-in-Subscribe-clause-caches : goal.returns-in-Subscribe-clause-caches
 returns-in-Subscribe-clause-caches c =
-    subst (λ (z : Step). CachesAfterAct (logs_of c.args.shard.now) (plain_session_step z).act (caches_of c.args.shard.now) (caches_of c.subscribe.new.shard)) (sym c.in-Subscribe.is) c.subscribe.ensures.caches_unchanged
+    subst (λ (z : Step). CachesAfterAct (logs_of c.args.shard.now) (plain_session_step z).act (plain_step_answer c.subscribe.result) (caches_of c.args.shard.now) (caches_of c.subscribe.new.shard)) (sym c.in-Subscribe.is) c.subscribe.ensures.caches_unchanged
 
 pub returns-in-Take-clause-has_look : goal.returns-in-Take-clause-has_look
 returns-in-Take-clause-has_look c = subst (λ l. HasLookAt l c.take.new.self.attempt) (sym c.take.ensures.logs_unchanged) (subst (HasLookAt (logs_of c.args.shard.now)) (sym c.take.ensures.attempt_unchanged) c.requires.has_look)
@@ -166,7 +166,7 @@ returns-in-Take-clause-other_queues_unchanged c =
 
 pub returns-in-Take-clause-caches : goal.returns-in-Take-clause-caches
 returns-in-Take-clause-caches c =
-    subst (λ (z : Step). CachesAfterAct (logs_of c.args.shard.now) (plain_session_step z).act (caches_of c.args.shard.now) (caches_of c.take.new.shard)) (sym c.in-Take.is) c.take.ensures.caches_unchanged
+    subst (λ (z : Step). CachesAfterAct (logs_of c.args.shard.now) (plain_session_step z).act (plain_step_answer c.take.result) (caches_of c.args.shard.now) (caches_of c.take.new.shard)) (sym c.in-Take.is) c.take.ensures.caches_unchanged
 
 pub returns-in-Unsubscribe-clause-has_look : goal.returns-in-Unsubscribe-clause-has_look
 returns-in-Unsubscribe-clause-has_look c = subst (λ l. HasLookAt l c.unsubscribe.new.self.attempt) (sym c.unsubscribe.ensures.logs_unchanged) (subst (HasLookAt (logs_of c.args.shard.now)) (sym c.unsubscribe.ensures.attempt_unchanged) c.requires.has_look)
@@ -179,14 +179,14 @@ returns-in-Unsubscribe-clause-other_queues_unchanged c =
 
 pub returns-in-Unsubscribe-clause-caches : goal.returns-in-Unsubscribe-clause-caches
 returns-in-Unsubscribe-clause-caches c =
-    subst (λ (z : Step). CachesAfterAct (logs_of c.args.shard.now) (plain_session_step z).act (caches_of c.args.shard.now) (caches_of c.unsubscribe.new.shard)) (sym c.in-Unsubscribe.is) c.unsubscribe.ensures.caches_unchanged
+    subst (λ (z : Step). CachesAfterAct (logs_of c.args.shard.now) (plain_session_step z).act (plain_step_answer c.unsubscribe.result) (caches_of c.args.shard.now) (caches_of c.unsubscribe.new.shard)) (sym c.in-Unsubscribe.is) c.unsubscribe.ensures.caches_unchanged
 
 pub returns-in-Fetch-clause-has_look : goal.returns-in-Fetch-clause-has_look
 returns-in-Fetch-clause-has_look c = subst (λ (s : ShardState). HasLookAt s.logs c.args.session.now.attempt) (sym c.fetch.ensures.unchanged) c.requires.has_look
 
 pub returns-in-Fetch-clause-caches : goal.returns-in-Fetch-clause-caches
 returns-in-Fetch-clause-caches c =
-    subst (λ (z : Step). CachesAfterAct (logs_of c.args.shard.now) (plain_session_step z).act (caches_of c.args.shard.now) (caches_of c.fetch.new.shard)) (sym c.in-Fetch.is) (ap (λ s. s.caches) c.fetch.ensures.unchanged)
+    subst (λ (z : Step). CachesAfterAct (logs_of c.args.shard.now) (plain_session_step z).act (plain_step_answer c.fetch.result) (caches_of c.args.shard.now) (caches_of c.fetch.new.shard)) (sym c.in-Fetch.is) (ap (λ s. s.caches) c.fetch.ensures.unchanged)
 
 pub returns-in-Snapshot-clause-has_look : goal.returns-in-Snapshot-clause-has_look
 returns-in-Snapshot-clause-has_look c = subst (λ (s : ShardState). HasLookAt s.logs c.args.session.now.attempt) (sym c.snapshot.ensures.cache.1) c.requires.has_look
