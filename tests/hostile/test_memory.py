@@ -1,4 +1,6 @@
 """The memory that clients can hold, by the proved program."""
+import time
+
 import attacks
 import pytest
 from support.dialogue import ROOT
@@ -10,6 +12,12 @@ LONG_LOG, LISTERS, LIST_HELD = 200_000, 8, 1  # operations of a log, clients tha
 LISTED = {"c": "long", "d": "1"}
 TEXT_LENGTH, PART = 20_000_000, 500_000  # bytes of the text of a document, and of an operation that adds to it
 READERS, DOCUMENT_HELD = 8, 1  # clients that request it, and megabytes for each
+QUEUES, INSERTS, INSERTED, QUEUE_HELD = (
+    64,
+    4,
+    100_000,
+    2,
+)  # of a session; operations of each, their bytes, megabytes for each reader
 REQUESTS = ({"a": "f"}, {"a": "s"}, {"a": "nf", "id": 1}, {"a": "nt", "id": 1})
 MESSAGES = attacks.DENSE + attacks.CREATES
 
@@ -91,3 +99,31 @@ def test_document_that_nobody_reads(proved_program):
         held = (server.megabytes("VmHWM") - base) / READERS
     print(f"{held:.2f} MB")
     assert held <= DOCUMENT_HELD
+
+
+def memory_of_queues(program, count):
+    """Returns the most memory of a server while so many clients are subscribed to large operations and read none of them."""
+    with Server(program) as server:
+        readers = [server.enter() for _ in range(count)]
+        for reader in readers:
+            for document in range(QUEUES):
+                reader.ask({"a": "s", "c": "queues", "d": str(document)})
+        with server.enter() as writer:
+            for number in range(QUEUES * (INSERTS + 1)):
+                version, document = divmod(number, QUEUES)
+                edit = {"op": [{"p": [0], "si": "y" * INSERTED}]} if version else {"create": {"type": "json0", "data": ""}}
+                key = {"c": "queues", "d": str(document), "src": f"w{document}", "seq": version + 1}
+                assert writer.ask({"a": "op", **key, "v": version, **edit})["v"] == version
+        time.sleep(2)
+        most = server.megabytes("VmHWM")
+        for reader in readers:
+            reader.socket.close()
+    return most
+
+
+@pytest.mark.slow
+def test_queues_that_nobody_reads(proved_program):
+    """Each client has 64 queues with large operations. A pump prints a part of one of them before it compares with its bound."""
+    held = (memory_of_queues(proved_program, READERS) - memory_of_queues(proved_program, 0)) / READERS
+    print(f"{held:.2f} MB")
+    assert held <= QUEUE_HELD
