@@ -2,5 +2,4 @@ mod Adding
 mod LostFrames
 mod Opened
 mod Reading
-mod Receipts
 mod Statements

@@ -4,4 +4,3 @@ pub mod Damage
 pub mod LineFile
 pub mod LineTable
 pub mod Lines
-pub mod Receipts

@@ -2,7 +2,6 @@
 //!
 //! [`open_or_create`] opens the file, [`UnreadFile::restore`] passes its lines to a [`LineSink`] in
 //! the order of storing, and [`LineFile::store_group`] stores a group of lines in one transaction.
-//! A [`Receipt`] has the lines that were stored and their numbers.
 #![tactic(auto)]
 
 mod contents;
@@ -10,13 +9,11 @@ mod crash;
 mod damage;
 mod error;
 mod files;
-pub mod laws;
 mod line_file;
 mod line_table;
 mod online;
 mod opening;
 mod place;
-mod receipt;
 mod recovery;
 mod restoring;
 mod storing;
@@ -30,6 +27,5 @@ pub use line_file::{LineFile, UnreadFile};
 pub use online::read_online_files;
 pub use opening::{adopt, close, open_or_create};
 pub use place::FilePlace;
-pub use receipt::Receipt;
 pub use recovery::{open_sound_copy, sound_contents};
 pub use restoring::LineSink;

@@ -1,16 +1,14 @@
 //! Storing lines in groups.
-ghost use Rattle.std.specs.Prelude.{◌≡◌, ◌⊎◌, ◌∷◌, [], ◌++◌, false, List, ℕ, length, IsTrue, IfOk, IfErr, OnOk, OnErr};
+ghost use Rattle.std.specs.Prelude.{◌≡◌, ◌⊎◌, ◌∷◌, [], ◌++◌, false, List, ℕ, length, IsTrue, IfErr, OnOk, OnErr};
 ghost use Rattle.sqlite.specs.State.{HasCleanDisk, KeepsCommit, Survives};
 ghost use Rattle.sqlite.specs.Held.{state};
 ghost use Rattle.sdb_linefile.specs.Lines.{lines_of};
 ghost use Rattle.sdb_linefile.specs.LineTable.{Added};
 ghost use Rattle.sdb_linefile.specs.LineFile.{StoresLines, LeavesEither, IsFileOf, file_state};
-ghost use Rattle.sdb_linefile.specs.Receipts.{receipt_lines, AreReceipted};
 
 use crate::error::LineFileError;
 use crate::line_file::LineFile;
 use crate::line_table::INSERT_TEXT;
-use crate::receipt::Receipt;
 use sqlite::{Alter, Connection, Error, Transaction, params};
 
 impl<S: Alter> LineFile<S> {
@@ -25,34 +23,26 @@ impl<S: Alter> LineFile<S> {
     /// unless a failure of the disk closed the file.
     ///
     /// ```
-    /// match file.store_group(group) {
-    ///     Ok(receipt) => assert_eq!(rt; receipt.lines().len(), 2),
-    ///     Err((error, group)) => return Err(error),
+    /// if let Err((error, group)) = file.store_group(group) {
+    ///     return Err(error);
     /// }
     /// ```
-    pub fn store_group(
-        &mut self,
-        group: Vec<Vec<u8>>,
-    ) -> Result<Receipt, (LineFileError, Vec<Vec<u8>>)>
+    pub fn store_group(&mut self, group: Vec<Vec<u8>>) -> Result<(), (LineFileError, Vec<Vec<u8>>)>
         ensures ok { HasCleanDisk (file_state self.new) → OnOk result ((before : List (List ℕ)) →
             IsFileOf before self.old → IsFileOf (before ++ lines_of group.items) self.new) }
-        ensures receipt { HasCleanDisk (file_state self.new) → IfOk result (λ receipt. (before : List (List ℕ)) →
-            IsFileOf before self.old → AreReceipted receipt (before ++ lines_of group.items)
-            × (receipt_lines receipt ≡ lines_of group.items)) }
         ensures crash { HasCleanDisk (file_state self.new) → (before : List (List ℕ)) → IsFileOf before self.old →
             LeavesEither before (before ++ lines_of group.items) (file_state self.new) }
         ensures err { HasCleanDisk (file_state self.new) → IsTrue (file_state self.new).is_open → OnErr result
             ((before : List (List ℕ)) → IsFileOf before self.old → IsFileOf before self.new) }
         ensures returned { IfErr result (λ e. e.1 ≡ group) }
     {
-        let before = self.count;
-        let Some(count) = before.checked_add(group.len() as u64) else {
+        let Some(count) = self.count.checked_add(group.len() as u64) else {
             return Err((LineFileError::TooManyLines, group));
         };
         match commit_group(&mut self.conn, group.as_slice()) {
             Ok(()) => {
                 self.count = count;
-                Ok(Receipt::new(before, group))
+                Ok(())
             }
             Err(error) => Err((LineFileError::from(error), group)),
         }

@@ -158,7 +158,7 @@ impl<S: Alter> LineWriter for FileWriter<S> {
     fn write(&mut self, group: Vec<Vec<u8>>) -> Result<(), (WriteFault, Vec<Vec<u8>>)> {
         let entries = count_entries(group.as_slice());
         match self.file.store_group(group) {
-            Ok(_) => {
+            Ok(()) => {
                 self.written = Some(entries);
                 Ok(())
             }
