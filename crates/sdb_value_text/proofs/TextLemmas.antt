@@ -1,5 +1,5 @@
 -- The text of lists, objects and texts from an index on.
-use Rattle.std.proofs.Common.{◌≡◌, ℕ, zero, suc, List, [], ◌∷◌, ◌++◌, map, drop, Option, Some, None, slice_get, Bool, true, nat_lt, refl, sym, ap, ◌∙◌, append_assoc, append-nil, arith}
+use Rattle.std.proofs.Common.{◌≡◌, ℕ, zero, suc, List, [], ◌∷◌, ◌++◌, map, drop, Some, None, slice_get, Bool, true, nat_lt, refl, sym, ap, ◌∙◌, append_assoc, append-nil, arith}
 use Rattle.std.proofs.lemmas.Bool.Decides.{nat_tests}
 use Rattle.std.specs.List.{concat}
 use Rattle.json.specs.Token.{key, string}
@@ -9,8 +9,8 @@ use Rattle.sdb_sorted_map.specs.MapEntry.{entry_model, key_value}
 use Rattle.sdb_sorted_map.specs.declared.map_entry.MapEntry.{MapEntry}
 use Rattle.sdb_value.specs.FromJson.{data_of_items, data_of_members}
 use Rattle.sdb_value.specs.Uniqueness.{value_model}
-use Rattle.sdb_value.specs.Value.{Value, Items, no_items, item, drop_items, Members, no_members, member}
-use Rattle.sdb_value.specs.View.{value_of, items_value, members_value}
+use Rattle.sdb_value.specs.Value.{Value, no_items, item, drop_items, no_members, member}
+use Rattle.sdb_value.specs.View.{items_value, members_value}
 use Rattle.sdb_value.specs.declared.value.Json.{Json}
 use Rattle.sdb_value_text.specs.Level.{drop_members, list_text, object_text, string_text, level_text, levels_text}
 use Rattle.sdb_value_text.specs.ValueText.{key_text, value_text}

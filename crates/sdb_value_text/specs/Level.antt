@@ -1,5 +1,5 @@
 -- The text that is left of one level of a value.
-use Rattle.std.specs.Prelude.{ℕ, zero, suc, List, [], ◌∷◌, ◌++◌, drop, nat_lt, Option, Some, None}
+use Rattle.std.specs.Prelude.{ℕ, zero, suc, ◌<◌, List, [], ◌∷◌, ◌++◌, length, drop, nat_lt, Option, Some, None, IfSome, ⊤}
 use Rattle.std.specs.List.{concat}
 use Rattle.json.specs.Print.{escape}
 use Rattle.serde_json.specs.Written.{items_text, members_text}
@@ -53,6 +53,15 @@ opened_text (Some l) = level_text l
 abbrev pub next_text : Next → List ℕ → List ℕ
 next_text End rest = []
 next_text (Inner l) rest = opened_text l ++ rest
+
+-- some text of the level is left
+abbrev pub HasText : Level → Type 0
+HasText l = 0 < length (level_text l)
+
+-- likewise of an item or member that was only begun
+abbrev pub NextHasText : Next → Type 0
+NextHasText End = ⊤
+NextHasText (Inner l) = IfSome l HasText
 
 -- the last level is the innermost one
 abbrev pub levels_text : List Level → List ℕ

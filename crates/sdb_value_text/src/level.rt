@@ -1,8 +1,8 @@
 //! What is left of one level of a value.
-ghost use Rattle.std.specs.Prelude.{◌≡◌, ◌++◌, suc, IfOk};
+ghost use Rattle.std.specs.Prelude.{◌≡◌, ◌≢◌, ◌<◌, ◌++◌, [], length, suc, slice_get, Some, IfOk, IfSome, OnOk};
 ghost use Rattle.sdb_value.specs.View.{list_value, object_value, value_of};
 ghost use Rattle.sdb_rope.specs.Rope.{rope_texts};
-ghost use Rattle.sdb_value_text.specs.Level.{inside_text, level_text, list_text, next_text, object_text, opened_text, string_text};
+ghost use Rattle.sdb_value_text.specs.Level.{HasText, NextHasText, inside_text, level_text, list_text, next_text, object_text, opened_text, string_text};
 ghost use Rattle.sdb_value_text.specs.ValueText.{value_text};
 
 use crate::append::{append_comma, append_escaped, append_key, append_value};
@@ -42,8 +42,12 @@ pub struct Rest {
 impl Level {
     /// Appends the next piece of the text.
     pub(crate) fn write_piece(self, alloc: Global, out: &mut Vec<u8>) -> Result<Rest, AllocError>
-        ensures { IfOk result (λ r. out.new.items ++ (opened_text r.inner ++ opened_text r.own)
+        requires { HasText self }
+        ensures text { IfOk result (λ r. out.new.items ++ (opened_text r.inner ++ opened_text r.own)
             ≡ out.old.items ++ level_text self) }
+        ensures longer { OnOk result (length out.old.items < length out.new.items) }
+        ensures own_has_text { IfOk result (λ r. IfSome r.own HasText) }
+        ensures inner_has_text { IfOk result (λ r. IfSome r.inner HasText) }
     {
         match self {
             Level::Whole(value) => {
@@ -62,8 +66,10 @@ impl Level {
 // Appends a small value. Of a large one it appends the first byte, and returns what is left.
 #[tactic(auto, using(sdb_value::proofs::WeightLemmas::levels))]
 fn begin_value(alloc: Global, value: &Json, out: &mut Vec<u8>) -> Result<Option<Level>, AllocError>
-    ensures { IfOk result (λ rest. out.new.items ++ opened_text rest
+    ensures text { IfOk result (λ rest. out.new.items ++ opened_text rest
         ≡ out.old.items ++ value_text (value_of value.now)) }
+    ensures longer { OnOk result (length out.old.items < length out.new.items) }
+    ensures has_text { IfOk result (λ rest. IfSome rest HasText) }
 {
     if value.size(LARGE_SIZE) < LARGE_SIZE {
         append_value(alloc, value, out)?;
@@ -95,8 +101,12 @@ fn write_inside(
     index: usize,
     out: &mut Vec<u8>,
 ) -> Result<Rest, AllocError>
-    ensures { IfOk result (λ r. out.new.items ++ (opened_text r.inner ++ opened_text r.own)
+    requires { 0 < length (inside_text (value_of value) index) }
+    ensures text { IfOk result (λ r. out.new.items ++ (opened_text r.inner ++ opened_text r.own)
         ≡ out.old.items ++ inside_text (value_of value) index) }
+    ensures longer { OnOk result (length out.old.items < length out.new.items) }
+    ensures own_has_text { IfOk result (λ r. IfSome r.own HasText) }
+    ensures inner_has_text { IfOk result (λ r. IfSome r.inner HasText) }
 {
     let following = next_index(index)?;
     match write_next(alloc, &value, index, out)? {
@@ -119,8 +129,11 @@ fn write_next(
     index: usize,
     out: &mut Vec<u8>,
 ) -> Result<Next, AllocError>
-    ensures { IfOk result (λ n. out.new.items ++ next_text n (inside_text (value_of value.now) (suc index))
+    requires { 0 < length (inside_text (value_of value.now) index) }
+    ensures text { IfOk result (λ n. out.new.items ++ next_text n (inside_text (value_of value.now) (suc index))
         ≡ out.old.items ++ inside_text (value_of value.now) index) }
+    ensures longer { OnOk result (length out.old.items < length out.new.items) }
+    ensures has_text { IfOk result NextHasText }
 {
     match value {
         Json::List(items) => write_item(alloc, items, index, out),
@@ -136,8 +149,10 @@ fn write_item(
     index: usize,
     out: &mut Vec<u8>,
 ) -> Result<Next, AllocError>
-    ensures { IfOk result (λ n. out.new.items ++ next_text n (list_text (list_value items.now) (suc index))
+    ensures text { IfOk result (λ n. out.new.items ++ next_text n (list_text (list_value items.now) (suc index))
         ≡ out.old.items ++ list_text (list_value items.now) index) }
+    ensures longer { OnOk result (length out.old.items < length out.new.items) }
+    ensures has_text { IfOk result NextHasText }
 {
     let Some(item) = items.get(index) else {
         out.push(b']')?;
@@ -155,8 +170,10 @@ fn write_member(
     index: usize,
     out: &mut Vec<u8>,
 ) -> Result<Next, AllocError>
-    ensures { IfOk result (λ n. out.new.items ++ next_text n (object_text (object_value members.now) (suc index))
+    ensures text { IfOk result (λ n. out.new.items ++ next_text n (object_text (object_value members.now) (suc index))
         ≡ out.old.items ++ object_text (object_value members.now) index) }
+    ensures longer { OnOk result (length out.old.items < length out.new.items) }
+    ensures has_text { IfOk result NextHasText }
 {
     let Some(member) = members.chunks().get(index) else {
         out.push(b'}')?;
@@ -168,16 +185,19 @@ fn write_member(
     Ok(Next::Inner(inner))
 }
 
-// Appends the chunk at an index. After the last one it appends the quote.
+// Appends the first chunk from an index on that isn't empty. After the last one it appends the quote.
 fn write_chunk(
     alloc: Global,
     text: Rope,
     index: usize,
     out: &mut Vec<u8>,
 ) -> Result<Option<Level>, AllocError>
-    ensures { IfOk result (λ rest. out.new.items ++ opened_text rest
+    ensures text { IfOk result (λ rest. out.new.items ++ opened_text rest
         ≡ out.old.items ++ string_text (rope_texts text) index) }
+    ensures longer { OnOk result (length out.old.items < length out.new.items) }
+    ensures has_text { IfOk result (λ rest. IfSome rest HasText) }
 {
+    let index = skip_empty(&text, index)?;
     let Some(chunk) = text.chunk(index) else {
         out.push(b'"')?;
         return Ok(None);
@@ -185,6 +205,22 @@ fn write_chunk(
     append_escaped(alloc, chunk, out)?;
     let next = next_index(index)?;
     Ok(Some(Level::Text(text, next)))
+}
+
+// Returns the index of the first chunk from an index on that isn't empty, or one after the chunks.
+fn skip_empty(text: &Rope, index: usize) -> Result<usize, AllocError>
+    ensures text { IfOk result
+        (λ n. string_text (rope_texts text.now) n ≡ string_text (rope_texts text.now) index) }
+    ensures chunk { IfOk result (λ n. slice_get (rope_texts text.now) n ≢ Some []) }
+{
+    let mut at = index;
+    while let Some(chunk) = text.chunk(at) {
+        if !chunk.is_empty() {
+            break;
+        }
+        at = next_index(at)?;
+    }
+    Ok(at)
 }
 
 // Returns the next index. A list of more items than can be counted is refused.

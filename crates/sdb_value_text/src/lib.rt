@@ -3,6 +3,7 @@
 
 mod append;
 mod level;
+mod unwritten;
 mod value_text;
 
-pub use value_text::ValueText;
+pub use unwritten::ValueText;

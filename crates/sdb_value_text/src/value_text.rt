@@ -1,28 +1,14 @@
 //! The text of a value, written in parts.
-ghost use Rattle.std.specs.Prelude.{◌≡◌, ◌++◌, [], true, IfOk, OnOk};
+ghost use Rattle.std.specs.Prelude.{◌≡◌, ◌≤◌, ◌+◌, ◌++◌, [], length, true, false, All, IfOk, OnOk, IfSome};
 ghost use Rattle.sdb_value.specs.View.{value_of};
-ghost use Rattle.sdb_value_text.specs.Level.{levels_text, opened_text};
+ghost use Rattle.sdb_value_text.specs.Level.{HasText, levels_text, opened_text};
 ghost use Rattle.sdb_value_text.specs.Remaining.{remaining_text};
 ghost use Rattle.sdb_value_text.specs.ValueText.{value_text};
 
 use crate::level::Level;
+use crate::unwritten::ValueText;
 use sdb_value::Json;
 use std::alloc::{AllocError, Global};
-
-/// The text of a JSON value that isn't written yet. It has clones of the lists, objects and texts
-/// that are begun; of a frozen value these are pointers.
-///
-/// ```
-/// let mut text = ValueText::new(alloc, &value)?;
-/// let mut out = Vec::new(alloc);
-/// while !text.write_part(alloc, &mut out, 65_536)? {
-///     // Send `out` and clear it.
-/// }
-/// ```
-#[derive(Drop)]
-pub struct ValueText {
-    levels: Vec<Level>,
-}
 
 impl ValueText {
     /// Creates the text of a value.
@@ -38,9 +24,9 @@ impl ValueText {
         Ok(ValueText { levels })
     }
 
-    /// Appends the next part of the text. It ends with the first piece that reaches the limit: a
-    /// chunk of a text, a key, a value of a size below 1,024, or a bracket. Returns whether nothing
-    /// remains.
+    /// Appends the next part of the text, of at least `limit` bytes unless nothing remains after it.
+    /// It ends with the first piece that reaches the limit: a chunk of a text, a key, a value of a
+    /// size below 1,024, or a bracket. Returns whether nothing remains.
     ///
     /// # Errors
     ///
@@ -52,7 +38,10 @@ impl ValueText {
         limit: usize,
     ) -> Result<bool, AllocError>
         ensures ok { OnOk result (out.new.items ++ remaining_text self.new ≡ out.old.items ++ remaining_text self.old) }
-        ensures end { IfOk result (λ is_end. is_end ≡ true → remaining_text self.new ≡ []) }
+        ensures end { IfOk result (λ is_end. (is_end ≡ true → remaining_text self.new ≡ [])
+            × (remaining_text self.new ≡ [] → is_end ≡ true)) }
+        ensures progress { IfOk result (λ is_end. is_end ≡ false
+            → length (remaining_text self.new) + limit ≤ length (remaining_text self.old)) }
     {
         let end = out.len().saturating_add(limit);
         for _ in 0..limit {
@@ -71,7 +60,10 @@ impl ValueText {
 }
 
 fn push_some(levels: &mut Vec<Level>, level: Option<Level>) -> Result<(), AllocError>
-    ensures { OnOk result (levels_text levels.new.items ≡ opened_text level ++ levels_text levels.old.items) }
+    requires have_text { All HasText levels.old.items }
+    requires has_text { IfSome level HasText }
+    ensures text { OnOk result (levels_text levels.new.items ≡ opened_text level ++ levels_text levels.old.items) }
+    ensures have_text { All HasText levels.new.items }
 {
     match level {
         Some(level) => {

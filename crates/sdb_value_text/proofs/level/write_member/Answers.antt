@@ -11,16 +11,16 @@ use Rattle.sdb_value_text.specs.ValueText.{key_text, value_text}
 use Rattle.sdb_value_text.proofs.TextLemmas.{appended, item_appended, member_text, object_end_text, model_of_entry}
 use Rattle.sdb_value_text.proofs.level.write_member.Goals as goal
 
-pub returns-in_default : goal.returns-in_default
-returns-in_default c =
+pub returns-in_default-clause-text : goal.returns-in_default-clause-text
+returns-in_default-clause-text c =
     let l = map_chunks c.args.members.now in
     let i = c.args.index in
     let same = ap (λ m. slice_get (vec_models model_of_entry m) i) c.chunks.ensures.equal in
     let none : slice_get (map model_of_entry (vec_items l)) i ≡ None = ap (λ xs. slice_get xs i) (sym (vec_models_of_items model_of_entry l)) ∙ sym (c.in_default.ensures ∙ same) in
     appended c.push.new.self.items c.args.out.now.items (125 ∷ []) [] (object_text (object_value c.args.members.now) i) c.in_ok-push.ensures.items (object_end_text (vec_items l) i none)
 
-pub returns : goal.returns
-returns c =
+pub returns-clause-text : goal.returns-clause-text
+returns-clause-text c =
     let l = map_chunks c.args.members.now in
     let i = c.args.index in
     let m = c.in-Some.member.now in
@@ -33,4 +33,4 @@ returns c =
     let named = c.in_ok-append_key.ensures ∙ ap (λ k. c.append_comma.new.out.items ++ key_text k) c.as_str.ensures in
     let head = named ∙ ap (λ xs. xs ++ key_text (entry_key m)) c.in_ok-append_comma.ensures ∙ append_assoc c.args.out.now.items comma (key_text (entry_key m)) in
     item_appended c.begin_value.new.out.items c.append_key.new.out.items c.args.out.now.items (comma ++ key_text (entry_key m)) (value_text (value_of v)) (opened_text c.in_ok-inner.inner)
-    _ _ head c.in_ok-inner.ensures (member_text (vec_items l) i (entry_key m) (value_of v) (is_unique v) found ∙ sym (append_assoc comma (key_text (entry_key m)) (value_text (value_of v) ++ rest)))
+    _ _ head c.in_ok-inner.ensures.text (member_text (vec_items l) i (entry_key m) (value_of v) (is_unique v) found ∙ sym (append_assoc comma (key_text (entry_key m)) (value_text (value_of v) ++ rest)))
