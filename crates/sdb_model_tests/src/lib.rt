@@ -37,3 +37,5 @@ mod subscribe;
 mod transform;
 #[cfg(test)]
 mod value;
+#[cfg(test)]
+mod value_text;
