@@ -8,7 +8,7 @@ use Rattle.std.proofs.MapsCrossing as maps
 use Rattle.sdb_backend.proofs.SendSync.{Backend-send, Backend-sync, Pass-send}
 use Rattle.sdb_backend.proofs.ValueSend.{Json-send, Json-sync}
 use Rattle.sdb_value_text.specs.contracts.level.Level as Level
-use Rattle.sdb_value_text.specs.contracts.unwritten.ValueText as ValueText
+use Rattle.sdb_value_text.specs.contracts.levels.ValueText as ValueText
 use Rattle.sdb_wire.specs.contracts.parts.DocumentParts as DocumentParts
 use Rattle.sdb_session.specs.contracts.session.Session as Session
 use Rattle.sdb_session.specs.contracts.listing.Listing as Listing

@@ -3,7 +3,7 @@
 
 mod append;
 mod level;
-mod unwritten;
+mod levels;
 mod value_text;
 
-pub use unwritten::ValueText;
+pub use levels::ValueText;

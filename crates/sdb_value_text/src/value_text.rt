@@ -6,7 +6,7 @@ ghost use Rattle.sdb_value_text.specs.Remaining.{remaining_text};
 ghost use Rattle.sdb_value_text.specs.ValueText.{value_text};
 
 use crate::level::Level;
-use crate::unwritten::ValueText;
+use crate::levels::ValueText;
 use sdb_value::Json;
 use std::alloc::{AllocError, Global};
 

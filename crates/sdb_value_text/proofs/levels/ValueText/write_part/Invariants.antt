@@ -1,6 +1,6 @@
 use Rattle.std.proofs.Common.{◌≡◌, ◌≤◌, ◌+◌, ◌++◌, length}
 use Rattle.sdb_value_text.specs.Level.{levels_text}
-use Rattle.sdb_value_text.proofs.unwritten.ValueText.write_part.Given as goal
+use Rattle.sdb_value_text.proofs.levels.ValueText.write_part.Given as goal
 
 abbrev pub invariant-loop : goal.invariant-loop
 invariant-loop l =

@@ -3,11 +3,11 @@ use Rattle.std.proofs.lemmas.Bool.Decides.{nat_tests}
 use Rattle.std.specs.Vec.{vec_len}
 use Rattle.sdb_value_text.specs.Level.{level_text, levels_text, opened_text}
 use Rattle.sdb_value_text.specs.Remaining.{remaining_text}
-use Rattle.sdb_value_text.specs.declared.unwritten.ValueText.{ValueText}
+use Rattle.sdb_value_text.specs.declared.levels.ValueText.{ValueText}
 use Rattle.sdb_value_text.proofs.HasTextLemmas.{empty_of_test, none_of_no_text, left_of_part}
 use Rattle.sdb_value_text.proofs.TextLemmas.{levels_push, levels_replaced}
-use Rattle.sdb_value_text.proofs.unwritten.ValueText.write_part.Goals.{else-loop-test, then-loop-test+then-len-end, then-loop-test+else-len-end+in_default}
-use Rattle.sdb_value_text.proofs.unwritten.ValueText.write_part.Goals as goal
+use Rattle.sdb_value_text.proofs.levels.ValueText.write_part.Goals.{else-loop-test, then-loop-test+then-len-end, then-loop-test+else-len-end+in_default}
+use Rattle.sdb_value_text.proofs.levels.ValueText.write_part.Goals as goal
 
 pub loop-preserved : goal.loop-preserved
 loop-preserved c =

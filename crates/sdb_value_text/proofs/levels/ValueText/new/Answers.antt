@@ -3,7 +3,7 @@ use Rattle.sdb_value.specs.View.{value_of}
 use Rattle.sdb_value_text.specs.Level.{HasText}
 use Rattle.sdb_value_text.specs.declared.level.Level.TheVariants.{Whole}
 use Rattle.sdb_value_text.proofs.HasTextLemmas.{value_has_text, pushed_have_text, none_have_text}
-use Rattle.sdb_value_text.proofs.unwritten.ValueText.new.Goals as goal
+use Rattle.sdb_value_text.proofs.levels.ValueText.new.Goals as goal
 
 pub invariant_of-result : goal.invariant_of-result
 invariant_of-result c =
