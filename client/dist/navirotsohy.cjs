@@ -928,6 +928,7 @@ function withShortRemoved(operation, room) {
 // src/machine.js
 var NEWER = "ERR_OP_VERSION_NEWER_THAN_CURRENT_SNAPSHOT";
 var BEGINNING = /* @__PURE__ */ new Set(["loading", "verifying", "catching up"]);
+var numberIsUsed = (version) => refusal("ERR_PROTOCOL", `another operation has the number of this one, at the version ${version}`);
 var Machine = class {
   /**
    * @param {{collection: string, id: string, source: string, nextNumber: () => number, now: () => number,
@@ -1284,7 +1285,7 @@ var Machine = class {
       if (content !== null || !this.arrived.has(message.v))
         this.arrived.set(message.v, entry);
     } else if (isOwn && this.version !== null) {
-      this.heal(refusal("ERR_PROTOCOL", `another operation was received as the own one ${message.v}`));
+      this.refused(numberIsUsed(message.v));
     }
   }
   // The client expected a refusal, so the content itself is requested like that of others.
@@ -1331,6 +1332,11 @@ var Machine = class {
     }
     this.version += 1;
     this.last = { source, seq };
+    if (shown && !isSent && !this.isConfirmedBy(before, own.content)) {
+      this.refused(numberIsUsed(version));
+      this.emit("version", { version, source, seq });
+      return;
+    }
     if (own !== null)
       this.inFlight = null;
     if (!shown)
@@ -1343,6 +1349,11 @@ var Machine = class {
     this.emit("stored", { version, source, seq });
     this.resolve(own.waiters, { version });
     this.reportDropped(own.dropped, new Refusal("ERR_OT_OP_NOT_APPLIED"));
+  }
+  // Whether a content makes the confirmed document of the one before.
+  isConfirmedBy(before, content) {
+    const made = orRefusal(() => ({ data: applyContent(before, content) }), () => null);
+    return made !== null && isSame(plain(made.data), plain(this.confirmed));
   }
   // Transforms the pending contents against a stored one, and shows it. The first pending content that is refused is
   // dropped with those made on it.

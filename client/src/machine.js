@@ -66,6 +66,9 @@ const NEWER = 'ERR_OP_VERSION_NEWER_THAN_CURRENT_SNAPSHOT';
 /** States in which a request of the client itself is outstanding. */
 const BEGINNING = new Set(['loading', 'verifying', 'catching up']);
 
+// A source and a number name one operation: a duplicate is acknowledged, and not stored.
+const numberIsUsed = (version) => refusal('ERR_PROTOCOL', `another operation has the number of this one, at the version ${version}`);
+
 export class Machine {
   /**
    * @param {{collection: string, id: string, source: string, nextNumber: () => number, now: () => number,
@@ -426,7 +429,7 @@ export class Machine {
     } else if ((content !== null || isOwn) && (this.version === null || message.v >= this.version)) {
       if (content !== null || !this.arrived.has(message.v)) this.arrived.set(message.v, entry);
     } else if (isOwn && this.version !== null) {
-      this.heal(refusal('ERR_PROTOCOL', `another operation was received as the own one ${message.v}`));
+      this.refused(numberIsUsed(message.v));
     }
   }
 
@@ -473,6 +476,11 @@ export class Machine {
     }
     this.version += 1;
     this.last = { source, seq };
+    if (shown && !isSent && !this.isConfirmedBy(before, own.content)) {
+      this.refused(numberIsUsed(version));
+      this.emit('version', { version, source, seq });
+      return;
+    }
     if (own !== null) this.inFlight = null;
     if (!shown) this.showOther(entry, before);
     else if (!isSent) this.replaceData();
@@ -481,6 +489,12 @@ export class Machine {
     this.emit('stored', { version, source, seq });
     this.resolve(own.waiters, { version });
     this.reportDropped(own.dropped, new Refusal('ERR_OT_OP_NOT_APPLIED'));
+  }
+
+  // Whether a content makes the confirmed document of the one before.
+  isConfirmedBy(before, content) {
+    const made = orRefusal(() => ({ data: applyContent(before, content) }), () => null);
+    return made !== null && isSame(plain(made.data), plain(this.confirmed));
   }
 
   // Transforms the pending contents against a stored one, and shows it. The first pending content that is refused is

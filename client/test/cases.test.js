@@ -207,14 +207,32 @@ test('a promise waits for its answer while the document is loaded anew', OPTIONS
   }
 });
 
-test('an acknowledgement of another version than the one that was received: the document is loaded anew', OPTIONS, async () => {
+test('an acknowledgement of another version than the one that was received: the edit isn\'t stored', OPTIONS, async () => {
   const { doc, events, socket } = loaded();
   const edit = doc.submit(insert(3, 'd'));
+  socket.taken();
   socket.answer(stored(3, insert(0, 'x')), acknowledged(3, 1));
-  assert.deepStrictEqual(await edit, { version: 3 });
-  assert.deepStrictEqual(namesOf(events), ['healed']);
-  socket.answer({ a: 's', ...ADDRESS, data: { data: 'abcd', v: 4 } });
-  holds(doc, 4, 'abcd');
+  await assert.rejects(edit, { code: 'ERR_PROTOCOL' });
+  assert.deepStrictEqual(namesOf(events), ['refused']);
+  assert.deepStrictEqual(socket.taken(), [{ a: 'f', ...ADDRESS }]);
+  socket.answer({ a: 'f', ...ADDRESS, data: { data: 'xabc', v: 4 } });
+  holds(doc, 4, 'xabc');
+});
+
+test('another client has used the number of an edit: the edit and those made on it aren\'t stored', OPTIONS, async () => {
+  const { doc, events, socket } = loaded();
+  const edits = [doc.submit(insert(3, 'd')), doc.submit(insert(4, 'e'))];
+  socket.taken();
+  socket.answer(stored(3, insert(0, 'x'), 'me', 1), acknowledged(3, 1));
+  for (const edit of edits) await assert.rejects(edit, { code: 'ERR_PROTOCOL' });
+  assert.deepStrictEqual(namesOf(events), ['refused']);
+  assert.deepStrictEqual([doc.version, doc.data, doc.pending], [4, 'xabc', 0]);
+  socket.taken();
+  socket.answer({ a: 'f', ...ADDRESS, data: { data: 'xabc', v: 4 } });
+  doc.submit(insert(0, 'y'));
+  assert.deepStrictEqual(socket.taken(), [{ a: 'op', ...ADDRESS, v: 4, src: 'me', seq: 2, op: insert(0, 'y') }]);
+  socket.answer(acknowledged(4, 2));
+  holds(doc, 5, 'yxabc');
 });
 
 test('an allocation failure: the same message is sent again', OPTIONS, () => {

@@ -371,12 +371,12 @@ test('a reconnect while the first submission is being decided: the stored operat
   assert.strictEqual(next.taken().length, 1);
 });
 
-test('the stored form of an own operation differs from the client\'s: the stored one is shown', OPTIONS, () => {
-  const { doc, socket } = loaded();
-  doc.submit(insert(3, 'd'));
-  doc.submit(insert(4, 'e'));
-  socket.answer(stored(3, insert(0, 'D'), 'me', 1));
-  assert.deepStrictEqual([doc.confirmed, doc.data], ['Dabc', 'Dabce']);
+test('the stored form of an own operation differs from the client\'s, and its document doesn\'t: it is stored', OPTIONS, () => {
+  const { doc, events, socket } = loaded();
+  doc.submit(insert(3, 'de'));
+  doc.submit(insert(5, 'f'));
+  socket.answer(stored(3, [...insert(3, 'e'), ...insert(3, 'd')], 'me', 1));
+  assert.deepStrictEqual([doc.confirmed, doc.data, namesOf(events)], ['abcde', 'abcdef', ['stored']]);
 });
 
 test('a document, a client and an emitter work through a proxy', OPTIONS, async () => {

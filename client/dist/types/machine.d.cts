@@ -120,6 +120,7 @@ export class Machine {
     get canAdvance(): boolean;
     advance(): void;
     see(entry: any): void;
+    isConfirmedBy(before: any, content: any): boolean;
     showOther({ content, source }: {
         content: any;
         source: any;
