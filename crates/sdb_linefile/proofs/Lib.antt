@@ -1,5 +1,6 @@
 mod Adding
 mod LostFrames
+mod Marking
 mod Opened
 mod Reading
 mod Statements

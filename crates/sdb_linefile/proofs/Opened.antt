@@ -11,7 +11,8 @@ use Rattle.sqlite.specs.Effect.{Database}
 use Rattle.sqlite_schema.specs.declared.schema.Schema.{Schema}
 use Rattle.sqlite.specs.Start.{FindsIn}
 use Rattle.sqlite.specs.State.{State, Opens, IsLive}
-use Rattle.sdb_linefile.specs.LineTable.{line_schema, empty_schema, ContainsLines}
+use Rattle.sdb_linefile.specs.Damage.{HasLostLog}
+use Rattle.sdb_linefile.specs.LineTable.{line_schema, empty_schema, AreRowsOf, ContainsLines, ShowsLines, ShowsMark}
 use Rattle.sdb_linefile.specs.LineFile.{StoresLines, FilesContain, HasNoDatabase, HasNoTable, IsLineFile}
 
 -- an open connection reads the schema of the trees
@@ -54,7 +55,7 @@ stores_found s lines db is opened live leaves holds = record {
   is_open = opened.is_open;
   now = record {
     schema = lists_once (db catalog_tree) s.now.schema line_schema (subst (λ t. IsSound s.now.schema t) is (live opened.is_open).0).lists holds.sound.lists;
-    rows = ap (λ (t : Trees). t 0) is ∙ holds.rows;
+    rows = subst (AreRowsOf lines) (ap (λ (t : Trees). t 0) (sym is)) holds.rows;
   };
   crash = λ left may. subst (ContainsLines lines) (sym (leaves left may)) holds;
 }
@@ -85,3 +86,29 @@ at_ok (Err y) e h = absurd cc
 pub map_ok : {A E : Type 0} {P Q : A → Type 0} (r : Result A E) → IfOk r P → ((x : A) → P x → Q x) → IfOk r Q
 map_ok (Ok x) is step = step x is
 map_ok (Err e) is step = tt
+
+pub both_ok : {A E : Type 0} {P Q R : A → Type 0} (r : Result A E) → IfOk r P → IfOk r Q → ((x : A) → P x → Q x → R x) → IfOk r R
+both_ok (Ok x) first second step = step x first second
+both_ok (Err e) first second step = tt
+
+module _ (s : State) (image : Image) (found : FindsIn image s) (opened : Opens s) where
+  -- a connection to files without their log reads the mark
+  pub lost_shows : HasLostLog image → ShowsMark s.now
+  lost_shows lost =
+      let is : s.now.trees ≡ lost.db = ap (λ (d : Database). d.trees) opened.clean ∙ found.holds lost.db lost.holds in
+      (lost.mark.others, ap (λ (t : Trees). t 0) is ∙ lost.mark.rows)
+
+  -- and has the table of the lines
+  pub lost_lists : IsLive s → HasLostLog image → ¬ (s.now.schema ≡ empty_schema)
+  lost_lists live lost empty = line_not_empty (sym (schema_found s lost.db line_schema opened live (found.holds lost.db lost.holds) lost.mark.sound) ∙ empty)
+
+  -- such files with the mark lack their log
+  pub lost_if_marked : (lines : List (List ℕ)) → image.log ≡ [] → FilesContain lines image → (ShowsLines lines s.now → ShowsMark s.now) → IsLive s → HasLostLog image
+  lost_if_marked lines none files marks live =
+      let is : s.now.trees ≡ files.0 = ap (λ (d : Database). d.trees) opened.clean ∙ found.holds files.0 files.1 in
+      let shows : ShowsLines lines s.now = record {
+        schema = schema_found s files.0 line_schema opened live (found.holds files.0 files.1) files.2.sound;
+        rows = subst (AreRowsOf lines) (ap (λ (t : Trees). t 0) (sym is)) files.2.rows;
+      } in
+      let mark = marks shows in
+      record { log = none; db = files.0; holds = files.1; mark = record { sound = files.2.sound; others = mark.0; rows = ap (λ (t : Trees). t 0) (sym is) ∙ mark.1 } }

@@ -3,14 +3,17 @@ use Rattle.std.proofs.Common.{◌≡◌, inl, inr, ◌≤◌, ℕ, zero, suc, �
 use Rattle.std.specs.List.Sorted.{IsPermutation}
 use Rattle.std.proofs.lemmas.List.Sorted.{length_permutation, All-permutation}
 use Rattle.std.proofs.lemmas.List.Elements.{All-from_recursion, recursion_from_All, All-map}
-use Rattle.std.specs.List.{AllByRecursion}
+use Rattle.std.specs.List.{AllByRecursion, list_all}
+use Rattle.std.specs.Prelude.{if◌then◌else◌}
+use Rattle.std.specs.Ordering.{int_eq}
+use Rattle.std.proofs.lemmas.Bool.Decides.{nat_tests}
 use Rattle.std.proofs.lemmas.List.{append_assoc, length-map}
 use Rattle.std.proofs.Math.Seq.{take-length}
 use Rattle.sqlite_value.specs.declared.value.Value.TheVariants.{Null, Int, Blob as Bytes}
 use Rattle.sqlite_value.specs.declared.keys.Collation.TheVariants.{Binary}
 use Rattle.sqlite_value.specs.declared.keys.Key.{Key}
 use Rattle.sqlite_value.specs.Order.{Row}
-use Rattle.sqlite_sql.specs.Term.{Env, lit, col}
+use Rattle.sqlite_sql.specs.Term.{Env, lit, col, holds}
 use Rattle.sqlite_sql.specs.Query.{Query, inner, end, IsAnswer, output, Output}
 use Rattle.sqlite_sql.specs.Program.{overlay}
 use Rattle.sqlite_schema.specs.declared.command.Command.TheVariants.{Select}
@@ -24,11 +27,11 @@ use Rattle.sqlite.specs.State.{State, HasCleanDisk, IsUnchanged, Shown, Begins, 
 use Rattle.sqlite.proofs.Callers.{IsPlain, command_of, reads_as, begins_as, given_begin, unchanged_then, never_commits}
 use Rattle.sqlite.proofs.StateLemmas.{survives_weaker}
 use Rattle.sdb_linefile.specs.Lines.{AcceptsAll}
-use Rattle.sdb_linefile.specs.LineTable.{line_schema, row_of, rows_from, ShowsLines, IsShownOf}
+use Rattle.sdb_linefile.specs.LineTable.{line_schema, row_of, rows_from, AreRowsOf, ShowsLines, IsShownOf}
 use Rattle.sdb_linefile.specs.LineFile.{StoresLines}
 
 abbrev pub select_text : List ℕ
-select_text = codes "SELECT number, line FROM sdb_line ORDER BY number"
+select_text = codes "SELECT number, line FROM sdb_line WHERE number ORDER BY number"
 
 abbrev by_number : Key
 by_number = record { collation = Binary; descending = false }
@@ -36,7 +39,7 @@ by_number = record { collation = Binary; descending = false }
 abbrev query : Query
 query = record {
   from = inner 0 end;
-  filter = [];
+  filter = col 1 0 ∷ [];
   group = None;
   project = col 1 0 ∷ col 1 2 ∷ [];
   distinct = false;
@@ -65,10 +68,24 @@ staged_from : ℕ → List (List ℕ) → List Env
 staged_from n [] = []
 staged_from n (x ∷ xs) = ([] ∷ row_of n x ∷ []) ∷ staged_from (suc n) xs
 
-matched : (n : ℕ) (lines : List (List ℕ)) → flat_map (λ (r : Row). ([] ∷ r ∷ []) ∷ []) (rows_from n lines) ≡ staged_from n lines
+-- what the filter keeps of a row
+abbrev kept_of : Row → List Env
+kept_of r = if list_all (holds ([] ∷ r ∷ [])) (col 1 0 ∷ []) then ([] ∷ r ∷ []) ∷ [] else []
+
+not_zero : (n : ℕ) → int_eq (pos (suc n)) (pos 0) ≡ false
+not_zero n = grind (arith, nat_tests)
+
+line_kept : (n : ℕ) (x : List ℕ) → kept_of (row_of (suc n) x) ≡ ([] ∷ row_of (suc n) x ∷ []) ∷ []
+line_kept n x = rw (not_zero n) refl
+
+matched : (n : ℕ) (lines : List (List ℕ)) → flat_map kept_of (rows_from (suc n) lines) ≡ staged_from (suc n) lines
 unfolding staged_from
 matched n [] = refl
-matched n (x ∷ xs) = ap (λ es. ([] ∷ row_of n x ∷ []) ∷ es) (matched (suc n) xs)
+matched n (x ∷ xs) = ap (λ es. es ++ flat_map kept_of (rows_from (suc (suc n)) xs)) (line_kept n x) ∙ ap (λ es. ([] ∷ row_of (suc n) x ∷ []) ∷ es) (matched (suc n) xs)
+
+all_matched : (lines : List (List ℕ)) (rows : List Row) → AreRowsOf lines rows → flat_map kept_of rows ≡ staged_from 1 lines
+all_matched lines rows (inl is) = ap (flat_map kept_of) is ∙ matched 0 lines
+all_matched lines rows (inr is) = ap (flat_map kept_of) is ∙ matched 0 lines
 
 output_all : (n : ℕ) (lines : List (List ℕ)) → map (output query) (staged_from n lines) ≡ outs_from n lines
 unfolding staged_from
@@ -98,9 +115,9 @@ pub record AreShownOf (lines : List (List ℕ)) (rows : List Row) : Type 0 where
   pub each : All (IsShownOf lines) rows
 
 -- an answer of the query shows the lines
-answered : (db : Trees) (lines : List (List ℕ)) (rows : List Row) → db 0 ≡ rows_from 1 lines → IsAnswer query (overlay db []) [] rows → AreShownOf lines rows
+answered : (db : Trees) (lines : List (List ℕ)) (rows : List Row) → AreRowsOf lines (db 0) → IsAnswer query (overlay db []) [] rows → AreShownOf lines rows
 answered db lines rows has a =
-    let staged : a.staged ≡ staged_from 1 lines = a.grouped ∙ rw has (matched 1 lines) in
+    let staged : a.staged ≡ staged_from 1 lines = a.grouped ∙ all_matched lines (db 0) has in
     let kept : a.kept ≡ outs_from 1 lines = a.distinct ∙ ap (map (output query)) staged ∙ output_all 1 lines in
     let same : IsPermutation (outs_from 1 lines) a.ordered = subst (λ k. IsPermutation k a.ordered) kept a.same in
     let is : rows ≡ map (λ (o : Output). o.1) a.ordered = a.shown in

@@ -15,13 +15,17 @@ use Rattle.sqlite_sql.specs.Ops.{unary}
 use Rattle.sqlite_schema.specs.declared.command.Source.TheVariants.{Values}
 use Rattle.sqlite_schema.specs.declared.command.Command.TheVariants.{Insert, CreateTable}
 use Rattle.sqlite_resolve.specs.Compile.{table_defined_by}
-use Rattle.sqlite_rules.specs.Edit.{edit_of, edited, next_rowid}
+use Rattle.sqlite_rules.specs.Edit.{Edit, Applies, edit_of, edited, next_rowid}
+use Rattle.sqlite_schema.specs.declared.schema.Keys.TheVariants.{Enforced}
 use Rattle.sqlite_rules.specs.Cast.{as_integer}
 use Rattle.sqlite_rules.specs.declared.error.Rowids.TheVariants.{Chosen}
 use Rattle.sqlite_catalog.specs.Listing.{IsSound}
 use Rattle.sqlite_catalog.specs.Change.{created, next_tree}
 use Rattle.sqlite.specs.Does.{Tally, Does, lacks_sequence}
-use Rattle.sqlite.specs.Rows.{Written}
+use Rattle.sqlite.specs.Rows.{Written, stamped}
+use Rattle.sqlite.specs.Effect.{value_rows}
+use Rattle.sqlite_value.specs.Order.{Row}
+use Rattle.std.specs.Prelude.{◌/◌}
 use Rattle.sqlite_trees.specs.Tree.{Trees, put_row}
 use Rattle.sqlite_tied.specs.Compute.{everything}
 use Rattle.sqlite.specs.declared.error.Error.{Error}
@@ -32,7 +36,7 @@ use Rattle.sqlite.specs.Held.{Held, state}
 use Rattle.sqlite_trees.specs.declared.store.Store.{Ghosts}
 use Rattle.sqlite_schema.specs.declared.command.Command.{Command}
 use Rattle.sqlite.proofs.Callers.{IsPlain, command_of, statement_of, runs_as, one_step}
-use Rattle.sdb_linefile.specs.LineTable.{line_table, line_schema, empty_schema, row_of, rows_from, ContainsLines, ShowsLines}
+use Rattle.sdb_linefile.specs.LineTable.{line_table, line_schema, empty_schema, row_of, rows_from, mark_row, AreRowsOf, ContainsLines, ShowsLines}
 use Rattle.sdb_linefile.specs.LineFile.{StoresLines}
 
 abbrev pub create_text : List ℕ
@@ -82,7 +86,7 @@ creates old new (Ok count) has h =
     let now : new.now ≡ first.0 = ap (λ (p : Tally × Database). p.1) (same_value all.2) ∙ same_value (rw plain at first.2) in
     record {
       schema = ap (λ (d : Database). d.schema) now ∙ schema;
-      rows = ap (λ (d : Database). d.trees 0) now ∙ subst (λ s. first.0.trees (next_tree s) ≡ []) has made.empty;
+      rows = inl (ap (λ (d : Database). d.trees 0) now ∙ subst (λ s. first.0.trees (next_tree s) ≡ []) has made.empty);
     }
 
 -- ---- a row after the others
@@ -97,6 +101,12 @@ put_row_after n line (x ∷ xs) =
     let less : value_cmp (Int (pos n)) (Int (pos (n + suc (length xs)))) ≡ Less = value_cmp-Int (pos n) (pos (n + suc (length xs))) ∙ below n (length xs) in
     rw less (ap (λ rest. row_of n x ∷ rest) (ap (λ k. put_row (row_of k line) (rows_from (suc n) xs)) m ∙ put_row_after (suc n) line xs))
 
+pub put_row_marked : (line : List ℕ) (lines : List (List ℕ)) → put_row (row_of (1 + length lines) line) (mark_row ∷ rows_from 1 lines) ≡ mark_row ∷ rows_from 1 (lines ++ line ∷ [])
+put_row_marked line lines =
+    let m : 0 + suc (length lines) ≡ 1 + length lines = omega arith in
+    let less : value_cmp (Int (pos 0)) (Int (pos (1 + length lines))) ≡ Less = value_cmp-Int (pos 0) (pos (1 + length lines)) ∙ subst (λ k. int_cmp (pos 0) (pos k) ≡ Less) m (below 0 (length lines)) in
+    rw less (ap (λ rest. mark_row ∷ rest) (put_row_after 1 line lines))
+
 counted : (n : ℕ) (lines : List (List ℕ)) → fold (λ _ r. id_in (rowid r) +ℤ pos 1) (pos n) (rows_from n lines) ≡ pos (n + length lines)
 counted n [] = ap pos (omega arith)
 counted n (x ∷ xs) =
@@ -106,13 +116,45 @@ counted n (x ∷ xs) =
 pub next_is : (lines : List (List ℕ)) → next_rowid (rows_from 1 lines) ≡ pos (1 + length lines)
 next_is lines = counted 1 lines
 
-either : (b : Bool) (x : Value) → cond b x x ≡ x
+-- the same after the mark
+pub next_is_marked : (lines : List (List ℕ)) → next_rowid (mark_row ∷ rows_from 1 lines) ≡ pos (1 + length lines)
+next_is_marked lines = counted 1 lines
+
+pub either : (b : Bool) (x : Value) → cond b x x ≡ x
 either true x = refl
 either false x = refl
 
-cast_null : as_integer Null ≡ Null
+pub cast_null : as_integer Null ≡ Null
 unfolding unary
 cast_null = either _ Null
+
+-- the edit of an INSERT of one row
+abbrev pub edit_by : Trees → Row → List Term → Edit
+edit_by db params all = edit_of db line_table [] Chosen 0 (value_rows (stamped line_table params) 3 (length all / 3) all)
+
+-- an INSERT into the table of lines is the one step of its edit
+pub inserts : (old : State) (after : Database) (tally : Tally) (text : List ℕ) (params : Row) (all : List Term) → old.now.schema ≡ line_schema
+    → Does old.step_limit (mode_of old) params old.now text None (Insert 0 (Values all 3)) (Ok (tally, after))
+    → (after.schema ≡ line_schema) × Applies line_schema Enforced old.now.trees (edit_by old.now.trees params all) after.trees
+inserts old after tally text params all has h =
+    let db = old.now.trees in
+    let done = went (subst (λ s. Does old.step_limit (mode_of old) params (record old.now { schema = s }) text None (Insert 0 (Values all 3)) (Ok (tally, after))) has h) in
+    let now = ap (λ (p : Tally × Database). p.1) (same_value (went (went done.2).2).2) in
+    let given = went done.1 in
+    let written = went (went given.2).2 in
+    let counted = went written.2 in
+    let trees : written.0 ≡ after.trees = sym (ap (λ (d : Database). d.trees) now ∙ ap (λ (it : Written). it.trees) (same_value counted.2) ∙ same_value counted.1) in
+    let step = one_step line_schema _ db written.0 (edit_of db line_table [] Chosen 0 given.0) refl written.1 in (
+      ap (λ (d : Database). d.schema) now,
+      subst (λ (t : Trees). Applies line_schema Enforced db (edit_by db params all) t) trees (subst (λ rows. Applies line_schema Enforced db (edit_of db line_table [] Chosen 0 rows) written.0) given.1.1 step),
+    )
+
+put_added : (db : Trees) (line : List ℕ) (rows : List Row) (k : ℕ) → db 0 ≡ rows → next_rowid rows ≡ pos k → edited db (edit_by db (Bytes line ∷ []) terms) ≡ put_row (row_of k line) rows
+put_added db line rows k is next = rw (is, next, cast_null) refl
+
+added_row : (db next : Trees) (line : List ℕ) (lines : List (List ℕ)) → AreRowsOf lines (db 0) → next 0 ≡ edited db (edit_by db (Bytes line ∷ []) terms) → AreRowsOf (lines ++ line ∷ []) (next 0)
+added_row db next line lines (inl is) rows = inl (rows ∙ put_added db line _ (1 + length lines) is (next_is lines) ∙ put_row_after 1 line lines)
+added_row db next line lines (inr is) rows = inr (rows ∙ put_added db line _ (1 + length lines) is (next_is_marked lines) ∙ put_row_marked line lines)
 
 abbrev command : Command
 command = Insert 0 (Values terms 3)
@@ -120,21 +162,8 @@ command = Insert 0 (Values terms 3)
 does_add : (old : State) (after : Database) (tally : Tally) (text line : List ℕ) (lines : List (List ℕ)) → ShowsLines lines old.now
     → Does old.step_limit (mode_of old) (Bytes line ∷ []) old.now text None command (Ok (tally, after)) → ShowsLines (lines ++ line ∷ []) after
 does_add old after tally text line lines has h =
-    let params = Bytes line ∷ [] in
-    let db = old.now.trees in
-    let done = went (subst (λ s. Does old.step_limit (mode_of old) params (record old.now { schema = s }) text None command (Ok (tally, after))) has.schema h) in
-    let now = ap (λ (p : Tally × Database). p.1) (same_value (went (went done.2).2).2) in
-    let given = went done.1 in
-    let written = went (went given.2).2 in
-    let counted = went written.2 in
-    let trees : done.0.trees ≡ written.0 = ap (λ (it : Written). it.trees) (same_value counted.2) ∙ same_value counted.1 in
-    let rows = (one_step line_schema _ db written.0 (edit_of db line_table [] Chosen 0 given.0) refl written.1).rows in
-    let edit : edited db (edit_of db line_table [] Chosen 0 given.0) ≡ rows_from 1 (lines ++ line ∷ []) =
-    ap (λ all. edited db (edit_of db line_table [] Chosen 0 all)) given.1.1 ∙ rw (has.rows, next_is lines, cast_null) (put_row_after 1 line lines) in
-    record {
-      schema = ap (λ (d : Database). d.schema) now;
-      rows = ap (λ (d : Database). d.trees 0) now ∙ ap (λ (t : Trees). t 0) trees ∙ rows ∙ edit;
-    }
+    let did = inserts old after tally text (Bytes line ∷ []) terms has.schema h in
+    record { schema = did.0; rows = added_row old.now.trees after.trees line lines has.rows did.1.rows }
 
 module _ (old new : State) (line : List ℕ) where
   pub writes : (lines : List (List ℕ)) (count : ℕ) → ShowsLines lines old.now → Executes insert_text (Bytes line ∷ []) old new (Ok count)
@@ -149,7 +178,7 @@ module _ (old new : State) (line : List ℕ) where
 pub contains_now : (lines : List (List ℕ)) (d : Database) (db : Trees) → ShowsLines lines d → IsDatabase d → db ≡ d.trees → ContainsLines lines db
 contains_now lines d db has sound is = record {
   sound = subst (IsSound line_schema) (sym is) (subst (λ s. IsSound s d.trees) has.schema sound);
-  rows = ap (λ (t : Trees). t 0) is ∙ has.rows;
+  rows = subst (AreRowsOf lines) (ap (λ (t : Trees). t 0) (sym is)) has.rows;
 }
 
 module _ {S : Type 0} (g : Ghosts S) (old new : Held S) where

@@ -1,10 +1,14 @@
--- What is wrong with the two files of a store, decided from the length of the database file and the bytes of its log.
-use Rattle.std.specs.Prelude.{◌≡◌, ℕ, ◌<◌, ◌/◌, List, length, slice_index}
+-- What is wrong with the two files of a store, decided from the length of the database file and the bytes of its log, or from what
+-- the database file holds if there is no log.
+use Rattle.std.specs.Prelude.{◌≡◌, [], ℕ, ◌<◌, ◌/◌, List, length, slice_index}
 use Rattle.sqlite_wal.specs.Format.{be32, IsHeader, page_number, count_page}
 use Rattle.sqlite_wal.specs.Recovery.{Image, header, frame, Passes}
 use Rattle.sqlite_wal.specs.PageSize.{IsPageSize}
+use Rattle.sqlite_trees.specs.Tree.{Trees}
+use Rattle.sqlite.specs.Files.{HoldsDatabase}
+use Rattle.sdb_linefile.specs.LineTable.{HasMark}
 use Rattle.sdb_linefile.specs.declared.damage.Damage.{Damage}
-use Rattle.sdb_linefile.specs.declared.damage.Damage.TheVariants.{MissingFile, Header, Frame}
+use Rattle.sdb_linefile.specs.declared.damage.Damage.TheVariants.{MissingFile, MissingLog, Header, Frame}
 
 -- the log is longer than the header of an empty log and the part of a frame after it
 abbrev pub IsLongLog : List ℕ → Type 0
@@ -36,12 +40,22 @@ pub record BeginsGroup (page_size : ℕ) (log : List ℕ) (j : ℕ) : Type 0 whe
 abbrev pub HasLostFrame : ℕ → List ℕ → Type 0
 HasLostFrame page_size log = (i : ℕ) × (j : ℕ) × (i < j) × (¬ Passes page_size log i) × BeginsGroup page_size log j
 
--- this is wrong with a log and a database file of this length, which is 0 if there is none
+-- This is wrong with a log and a database file of this length, which is 0 if there is none. A missing log is no damage of these:
+-- `HasLostLog` says when it is one of the database file.
 abbrev pub IsDamaged : Damage → ℕ → List ℕ → Type 0
 IsDamaged MissingFile file_len log = IsLongLog log × (file_len ≡ 0)
 IsDamaged Header file_len log = IsLongLog log × (¬ HasSoundHeader log) × (¬ IsBeingEmptied log)
+IsDamaged MissingLog file_len log = ⊥
 IsDamaged Frame file_len log = IsLongLog log × HasSoundHeader log × HasLostFrame (page_size_of log) log
 
+-- the log is missing, and the database file alone holds the mark, which a close deletes
+pub record HasLostLog (image : Image) : Type 0 where
+  pub log : image.log ≡ []
+  pub db : Trees
+  pub holds : HoldsDatabase image db
+  pub mark : HasMark db
+
 -- nothing is wrong with the files
-abbrev pub IsUndamaged : Image → Type 0
-IsUndamaged image = (damage : Damage) → ¬ IsDamaged damage (length image.db) image.log
+pub record IsUndamaged (image : Image) : Type 0 where
+  pub sound : (damage : Damage) → ¬ IsDamaged damage (length image.db) image.log
+  pub complete : ¬ HasLostLog image

@@ -9,16 +9,24 @@ use Rattle.sqlite_pages.specs.PageMap.{PageMap}
 use Rattle.sqlite_pool.specs.Stored.{Adopts}
 use Rattle.sqlite_store.specs.declared.catalog.Wanted.{Wanted}
 use Rattle.sqlite_store.specs.Listing.{IsOurs}
-use Rattle.sqlite.specs.Files.{HoldsDatabase}
+use Rattle.sqlite_disk.specs.declared.Disk as disk
+use Rattle.sqlite_disk.specs.declared.Files.{Files}
+use Rattle.sqlite_store.specs.declared.store.FileStore.{FileStore}
+use Rattle.sqlite.specs.Closing.{HoldsAlone}
+use Rattle.sqlite.specs.Files.{HoldsDatabase, Finds, image_of}
 use Rattle.sqlite.specs.Held.{state}
 use Rattle.sqlite.specs.State.{State, HasCleanDisk}
-use Rattle.sdb_linefile.specs.LineTable.{line_schema, empty_schema, ContainsLines, ShowsLines}
+use Rattle.sdb_linefile.specs.LineTable.{line_schema, empty_schema, ContainsLines, ShowsLines, HasMark}
 use Rattle.sdb_linefile.specs.declared.line_file.LineFile.{LineFile}
 use Rattle.sdb_linefile.specs.declared.line_file.UnreadFile.{UnreadFile}
 
 -- each crash leaves exactly these lines
 abbrev pub LeavesLines : List (List ℕ) → State → Type 0
 LeavesLines lines s = (db : Trees) → s.may_leave db → ContainsLines lines db
+
+-- each crash leaves the mark
+abbrev pub LeavesMark : State → Type 0
+LeavesMark s = (db : Trees) → s.may_leave db → HasMark db
 
 -- each crash leaves exactly these lines or exactly those
 abbrev pub LeavesEither : List (List ℕ) → List (List ℕ) → State → Type 0
@@ -73,3 +81,19 @@ module _ {S : Type 0} {g : Ghosts S} where
   -- the file contains exactly these lines and counts them, and each crash leaves exactly these
   abbrev pub IsFileOf : List (List ℕ) → LineFile S g → Type 0
   IsFileOf lines f = StoresLines lines (file_state f) × (f.count ≡ length lines)
+
+module _ {D : Type 0} {d : disk.Ghosts D} {g : Ghosts (FileStore D d)} where
+  -- the file was opened from two files of which the database file alone holds the mark
+  pub record HasMarkAlone (f : UnreadFile (FileStore D d) g) : Type 0 where
+    pub files : Files D
+    pub found : Finds files f.conn
+    pub db : Trees
+    pub alone : HoldsAlone (image_of d files) db
+    pub mark : HasMark db
+
+  -- The file contains exactly these lines, and each crash leaves exactly these and the mark. The database file has the mark
+  -- without its log.
+  pub record IsMarkedFileOf (lines : List (List ℕ)) (f : UnreadFile (FileStore D d) g) : Type 0 where
+    pub stores : IsUnreadFileOf lines f
+    pub crash : LeavesMark (unread_state f)
+    pub file : HasMarkAlone f

@@ -1,5 +1,5 @@
 -- The table of lines, and what a database with it holds.
-use Rattle.std.specs.Prelude.{◌≡◌, Bool, ℕ, ◌+◌, suc, true, false, List, [], ◌∷◌, slice_get, Some, codes, pos, ◌++◌, IsTrue}
+use Rattle.std.specs.Prelude.{◌≡◌, ◌⊎◌, Bool, ℕ, ◌+◌, suc, true, false, List, [], ◌∷◌, slice_get, Some, codes, pos, ◌++◌, IsTrue}
 use Rattle.sqlite_value.specs.declared.value.Value.TheVariants.{Null, Int, Blob as Bytes}
 use Rattle.sqlite_value.specs.declared.keys.Collation.TheVariants.{Binary}
 use Rattle.sqlite_value.specs.Order.{Row}
@@ -68,15 +68,33 @@ abbrev pub rows_from : ℕ → List (List ℕ) → List Row
 rows_from n [] = []
 rows_from n (line ∷ lines) = row_of n line ∷ rows_from (suc n) lines
 
+-- the mark of a file that is open for writing, or wasn't closed: a row before those of the lines
+abbrev pub mark_row : Row
+mark_row = row_of 0 (codes "open")
+
+-- the rows of these lines, perhaps after the mark
+abbrev pub AreRowsOf : List (List ℕ) → List Row → Type 0
+AreRowsOf lines rows = (rows ≡ rows_from 1 lines) ⊎ (rows ≡ mark_row ∷ rows_from 1 lines)
+
 -- the trees are a database that has the table of these lines and nothing else
 pub record ContainsLines (lines : List (List ℕ)) (db : Trees) : Type 0 where
   pub sound : IsSound line_schema db
-  pub rows : db 0 ≡ rows_from 1 lines
+  pub rows : AreRowsOf lines (db 0)
+
+-- the trees are a database that has the table of lines, and the mark in it
+pub record HasMark (db : Trees) : Type 0 where
+  pub sound : IsSound line_schema db
+  pub others : List Row
+  pub rows : db 0 ≡ mark_row ∷ others
 
 -- a database that is in use has the table of these lines and nothing else
 pub record ShowsLines (lines : List (List ℕ)) (db : Database) : Type 0 where
   pub schema : db.schema ≡ line_schema
-  pub rows : db.trees 0 ≡ rows_from 1 lines
+  pub rows : AreRowsOf lines (db.trees 0)
+
+-- a database that is in use has the mark in the table of lines
+abbrev pub ShowsMark : Database → Type 0
+ShowsMark db = (others : List Row) × (db.trees 0 ≡ mark_row ∷ others)
 
 -- the columns that the query reads: the number of a line, and the line
 abbrev pub IsShownOf : List (List ℕ) → Row → Type 0

@@ -29,6 +29,10 @@ pub enum Damage {
     /// The log isn't empty, and the database file is missing or empty.
     #[error("the file is missing or empty, but its log isn't empty")]
     MissingFile,
+    /// The log is missing, and the server that wrote to the file didn't close it. So the log had what
+    /// isn't in the file.
+    #[error("the log is missing, and the file wasn't closed")]
+    MissingLog,
     /// The header of the log is damaged.
     #[error("the header of the log is damaged")]
     Header,
@@ -40,7 +44,8 @@ pub enum Damage {
 /// Returns what is wrong with a log and a database file of this length, which is 0 if there is none.
 ///
 /// A power cut damages only the last group of a log, or the header of a log that is being emptied.
-/// Neither is damage here.
+/// Neither is damage here. [`Damage::MissingLog`] is found in the file, by
+/// [`check_files`](crate::check_files).
 ///
 /// ```
 /// assert_eq!(find_damage(0, &[]), None);

@@ -4,6 +4,7 @@ ghost use Rattle.sdb_linefile.specs.Contents.{image_of_contents};
 ghost use Rattle.sdb_linefile.specs.Damage.{IsDamaged, IsUndamaged};
 ghost use Rattle.sdb_linefile.specs.declared.damage.Damage.{Damage};
 
+use crate::contents::refuse_missing_log;
 use crate::damage::find_damage;
 use crate::error::LineFileError;
 use os::RangeLock;
@@ -33,14 +34,23 @@ pub struct FileContents {
 /// # Errors
 ///
 /// - [`LineFileError::Busy`] if another process has the file open.
-/// - [`LineFileError::DamagedFiles`] if the files are damaged as [`find_damage`] says.
+/// - [`LineFileError::DamagedFiles`] if the files are damaged as [`find_damage`] says, or if there is
+///   no log, or an empty one, and the file wasn't closed.
+/// - If there is no log, [`LineFileError::ForeignFile`] or [`LineFileError::Damaged`] if the file isn't
+///   one of lines.
 /// - The cause, as [`LineFileError::NoPermission`], if a file can't be read.
 pub fn check_files(rt: &HostRuntime, path: &str) -> Result<(), LineFileError> {
     let (file, log) = find_files(rt, path)?;
-    match file {
-        Some(file) => refuse_damage(file.metadata()?.len(), log.as_slice()),
-        None => refuse_damage(0, log.as_slice()),
+    let Some(file) = file else {
+        return refuse_damage(0, log.as_slice());
+    };
+    let file_len = file.metadata()?.len();
+    refuse_damage(file_len, log.as_slice())?;
+    if file_len > 0 && log.is_empty() {
+        let file = read_all(rt.alloc(), file)?;
+        refuse_missing_log(rt.alloc(), file.as_slice())?;
     }
+    Ok(())
 }
 
 /// Reads the files at a path. Nothing is created or written.
@@ -58,8 +68,21 @@ pub fn read_files(rt: &HostRuntime, path: &str) -> Result<FileContents, LineFile
         return Err(LineFileError::NotFound);
     };
     let file = read_all(rt.alloc(), file)?;
-    refuse_damage(file.len() as u64, log.as_slice())?;
-    Ok(FileContents { file, log })
+    undamaged(rt.alloc(), FileContents { file, log })
+}
+
+/// Returns the contents, unless they are damaged.
+pub(crate) fn undamaged(
+    alloc: Global,
+    contents: FileContents,
+) -> Result<FileContents, LineFileError>
+    ensures { IfOk result (λ contents. IsUndamaged (image_of_contents contents)) }
+{
+    refuse_damage(contents.file.len() as u64, contents.log.as_slice())?;
+    if contents.log.is_empty() {
+        refuse_missing_log(alloc, contents.file.as_slice())?;
+    }
+    Ok(contents)
 }
 
 // Reads the files at a path, whatever is wrong with them. A missing file is empty.

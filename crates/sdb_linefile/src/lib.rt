@@ -11,6 +11,7 @@ mod error;
 mod files;
 mod line_file;
 mod line_table;
+mod mark;
 mod online;
 mod opening;
 mod place;

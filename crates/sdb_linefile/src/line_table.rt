@@ -17,8 +17,9 @@ const CREATE_TEXT: &str =
 /// Stores a line after the others.
 pub(crate) const INSERT_TEXT: &str = "INSERT INTO sdb_line (line) VALUES (?1)";
 
-/// Reads the lines in the order of storing.
-pub(crate) const SELECT_TEXT: &str = "SELECT number, line FROM sdb_line ORDER BY number";
+/// Reads the lines in the order of storing, without the mark, whose number is 0.
+pub(crate) const SELECT_TEXT: &str =
+    "SELECT number, line FROM sdb_line WHERE number ORDER BY number";
 
 /// Creates the table in an empty database. Returns whether the database has the table of the lines.
 pub(crate) fn create_table<S: Alter>(conn: &mut Connection<S>) -> Result<bool, Error>

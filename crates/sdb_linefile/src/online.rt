@@ -3,9 +3,9 @@ ghost use Rattle.std.specs.Prelude.{IfOk};
 ghost use Rattle.sdb_linefile.specs.Contents.{image_of_contents};
 ghost use Rattle.sdb_linefile.specs.Damage.{IsUndamaged};
 
-use crate::damage::HEADER_LEN;
+use crate::damage::{Damage, HEADER_LEN};
 use crate::error::LineFileError;
-use crate::files::{FileContents, open_regular, read_all, real_path, refuse_damage};
+use crate::files::{FileContents, open_regular, read_all, real_path, undamaged};
 use std::io::Read;
 
 /// Number of reads after which the files change too often.
@@ -21,7 +21,8 @@ const READ_TRIES: usize = 64;
 ///
 /// - [`LineFileError::NotFound`] if there is no file.
 /// - [`LineFileError::Changing`] if the log was emptied during each of 64 reads.
-/// - [`LineFileError::DamagedFiles`] if the files are damaged as [`find_damage`] says.
+/// - [`LineFileError::DamagedFiles`] if the files are damaged as [`find_damage`] says, or if there is
+///   no log, or an empty one, and the file wasn't closed.
 /// - The cause, as [`LineFileError::NoPermission`], if a file can't be read.
 ///
 /// [`find_damage`]: crate::find_damage
@@ -44,10 +45,10 @@ pub fn read_online_files(rt: &HostRuntime, path: &str) -> Result<FileContents, L
 // Returns whether the next read may have another result. A group that was incomplete when it was read
 // is damage if one after it was read as a whole.
 fn can_change(error: LineFileError) -> bool {
-    matches!(
-        error,
-        LineFileError::Changing | LineFileError::DamagedFiles(_)
-    )
+    match error {
+        LineFileError::DamagedFiles(damage) => damage != Damage::MissingLog,
+        other => other == LineFileError::Changing,
+    }
 }
 
 // Reads the files, unless the log is emptied meanwhile.
@@ -66,8 +67,7 @@ fn read_once(rt: &HostRuntime, path: &str, log_path: &str) -> Result<FileContent
     if read_head(rt, log_path)? != head || !log.starts_with(head.as_slice()) {
         return Err(LineFileError::Changing);
     }
-    refuse_damage(file.len() as u64, log.as_slice())?;
-    Ok(FileContents { file, log })
+    undamaged(rt.alloc(), FileContents { file, log })
 }
 
 // Reads the header of the log. It has a number that changes whenever the log is emptied. A missing log

@@ -8,15 +8,20 @@ ghost use Rattle.sqlite.specs.Files.{HoldsDatabase};
 ghost use Rattle.sqlite.specs.State.{HasCleanDisk};
 ghost use Rattle.sqlite.specs.Held.{state};
 ghost use Rattle.sdb_linefile.specs.LineTable.{line_schema, empty_schema};
-ghost use Rattle.sdb_linefile.specs.LineFile.{AdoptsLines, FilesContain, HasNoTable, IsLineFileOrEmpty, IsUnreadFileOf, unread_state};
+ghost use Rattle.sdb_linefile.specs.LineFile.{AdoptsLines, FilesContain, HasNoTable, IsLineFileOrEmpty, IsMarkedFileOf, unread_state};
 
 use crate::error::LineFileError;
 use crate::files::{check_files, named_cause};
 use crate::line_file::{LineFile, UnreadFile};
 use crate::line_table::{create_table, is_empty_schema, is_line_schema};
+use crate::mark::{delete_mark, mark_file};
 use sqlite::{Alter, Connection, FileFrom, FileStore, Start};
+use std::hash::{BuildHasher, RandomState};
 
 /// Opens a file of lines, or creates one at the path of a new or empty file.
+///
+/// The open file has a mark in its database file, which [`close`] deletes. So a file without its log
+/// is refused if it wasn't closed.
 ///
 /// `start` is `sqlite::Unknown`, which needs one sync a commit and assumes that a torn write leaves
 /// each byte old or new, or `sqlite::Wary`, which needs two.
@@ -39,9 +44,9 @@ pub fn open_or_create<S: Start>(
     start: S,
 ) -> Result<UnreadFile<FileStore<FileFrom<S>>>, LineFileError>
     ensures ok { IfOk result (λ file. HasCleanDisk (unread_state file) → (lines : List (List ℕ)) →
-        FilesContain lines (image_at S.Start) → IsUnreadFileOf lines file) }
+        FilesContain lines (image_at S.Start) → IsMarkedFileOf lines file) }
     ensures created { IfOk result (λ file. HasCleanDisk (unread_state file) → HasNoTable (image_at S.Start) →
-        IsUnreadFileOf [] file) }
+        IsMarkedFileOf [] file) }
     ensures only { IfOk result (λ file. HasCleanDisk (unread_state file) → IsLineFileOrEmpty (image_at S.Start)) }
 {
     check_files(rt, path)?;
@@ -50,10 +55,12 @@ pub fn open_or_create<S: Start>(
         Err((error, _)) => return Err(named_cause(rt, path, LineFileError::from(error))),
     };
     settle(&conn);
-    match adopt(conn) {
-        Ok(file) => Ok(file),
-        Err((error, _)) => Err(error),
-    }
+    let file = match adopt(conn) {
+        Ok(file) => file,
+        Err((error, _)) => return Err(error),
+    };
+    let seed = RandomState::new(rt)?.hash_one(&0u8);
+    mark_file(rt.alloc(), seed, file)
 }
 
 // States that each crash of an open store leaves what is committed.
@@ -92,16 +99,17 @@ pub fn adopt<S: Alter>(
     }
 }
 
-/// Copies all lines into the database file and closes it, so that the file is complete without its
-/// log.
+/// Deletes the mark, copies all lines into the database file and closes it, so that the file is
+/// complete without its log.
 ///
 /// # Errors
 ///
 /// The [`LineFileError`] of the copy. The lines are then in the file and its log, unless a crash may
 /// have left less.
 pub fn close<S: Start>(file: LineFile<FileStore<FileFrom<S>>>) -> Result<(), LineFileError> {
-    match file.into_connection().close() {
-        Ok(()) => Ok(()),
-        Err(error) => Err(LineFileError::from(error)),
-    }
+    let mut conn = file.into_connection();
+    let deleted = delete_mark(&mut conn);
+    conn.close()?;
+    deleted?;
+    Ok(())
 }
