@@ -68,11 +68,11 @@ pub fn read_files(rt: &HostRuntime, path: &str) -> Result<FileContents, LineFile
         return Err(LineFileError::NotFound);
     };
     let file = read_all(rt.alloc(), file)?;
-    undamaged(rt.alloc(), FileContents { file, log })
+    check_contents(rt.alloc(), FileContents { file, log })
 }
 
-/// Returns the contents, unless they are damaged.
-pub(crate) fn undamaged(
+/// Returns the contents, unless they are damaged or their log is missing.
+pub(crate) fn check_contents(
     alloc: Global,
     contents: FileContents,
 ) -> Result<FileContents, LineFileError>

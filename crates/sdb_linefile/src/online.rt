@@ -5,7 +5,7 @@ ghost use Rattle.sdb_linefile.specs.Damage.{IsUndamaged};
 
 use crate::damage::{Damage, HEADER_LEN};
 use crate::error::LineFileError;
-use crate::files::{FileContents, open_regular, read_all, real_path, undamaged};
+use crate::files::{FileContents, check_contents, open_regular, read_all, real_path};
 use std::io::Read;
 
 /// Number of reads after which the files change too often.
@@ -67,7 +67,7 @@ fn read_once(rt: &HostRuntime, path: &str, log_path: &str) -> Result<FileContent
     if read_head(rt, log_path)? != head || !log.starts_with(head.as_slice()) {
         return Err(LineFileError::Changing);
     }
-    undamaged(rt.alloc(), FileContents { file, log })
+    check_contents(rt.alloc(), FileContents { file, log })
 }
 
 // Reads the header of the log. It has a number that changes whenever the log is emptied. A missing log
