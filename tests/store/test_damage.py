@@ -3,6 +3,7 @@ import os
 import pathlib
 import random
 import shutil
+import sqlite3
 import struct
 import subprocess
 import tempfile
@@ -21,6 +22,7 @@ START = ["--listen", "127.0.0.1:0"]
 MISSING = "the file is missing or empty, but its log isn't empty"
 HEADER = "the header of the log is damaged"
 MIDDLE = "the log is damaged before its last group"
+NO_LOG = "the log is missing, and the file wasn't closed"
 
 
 def submission(number, **content):
@@ -152,6 +154,27 @@ def test_a_log_without_its_file(program, killed, tmp_path, task, is_empty):
     is_refused(program, file, task, MISSING)
 
 
+@pytest.mark.parametrize("task", TASKS)
+@pytest.mark.parametrize("is_empty", [False, True])
+def test_a_file_without_its_log(program, killed, tmp_path, task, is_empty):
+    file = copied(killed, tmp_path)
+    log_of(file).unlink()
+    if is_empty:
+        log_of(file).touch()
+    is_refused(program, file, task, NO_LOG)
+
+
+def test_a_file_whose_log_stock_sqlite_has_removed(program, killed, tmp_path):
+    """It copies the log into the file, which keeps the mark of a file that wasn't closed."""
+    file = copied(killed, tmp_path)
+    connection = sqlite3.connect(file)
+    assert connection.execute("SELECT line FROM sdb_line WHERE number = 0").fetchone() == (b"open",)
+    connection.close()
+    assert not log_of(file).exists()
+    is_refused(program, file, START, NO_LOG)
+    assert recovered(program, file) == OPERATIONS
+
+
 def test_a_load_beside_a_log(program, killed, tmp_path):
     file = copied(killed, tmp_path)
     dump = ended(program, file, ["--dump"])[1]
@@ -191,6 +214,17 @@ def test_a_file_in_use(program, tmp_path, task):
 
 
 # Not refused ----------------------------------------------------------------------------------------------
+
+
+def test_a_closed_file_without_its_log(program, killed, tmp_path):
+    """A graceful end leaves all operations in the file, also one after a kill."""
+    file = copied(killed, tmp_path)
+    assert ended(program, file, ["--lines"])[0] == 0
+    log_of(file).unlink()
+    assert ended(program, file, ["--check"]) == accepted(OPERATIONS)
+    assert ended(program, file, ["--lines"])[0] == 0
+    assert ended(program, file, ["--check"]) == accepted(OPERATIONS)
+
 
 
 def test_a_check_leaves_the_files(program, killed, tmp_path):

@@ -27,6 +27,7 @@ READ = END * 10  # seconds in which the program must have read a state
 STARTS, FEW_STARTS = 10, 40  # of so many states before anything was sent the program starts with one
 BLOCK = 1024  # numbers of sessions, which are reserved at once
 MEMORY = "/dev/shm" if os.access("/dev/shm", os.W_OK) else None
+LINES = "SELECT number, line FROM sdb_line WHERE number > 0 ORDER BY number"  # without the mark
 KINDS = {"number", "length", "acknowledgement", "push"}  # of what a client is sent
 
 
@@ -202,7 +203,7 @@ def read_logs(store):
             shutil.copy(path, folder)
         connection = sqlite3.connect(pathlib.Path(folder) / store.name)
         try:
-            for place, (number, line) in enumerate(connection.execute("SELECT number, line FROM sdb_line ORDER BY number"), 1):
+            for place, (number, line) in enumerate(connection.execute(LINES), 1):
                 entry = json.loads(line)
                 if number != place:
                     raise ValueError(f"row {number} at place {place}")
