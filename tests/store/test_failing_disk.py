@@ -22,13 +22,13 @@ HOLD = 30  # seconds after which a client with held output is closed
 LATE = 20  # seconds more, for a busy machine
 # the calls of the store that fail, and the status of the program: a failed write is tried again, a failed sync closes the file
 FAULTS = {
-    "two writes": (f"write:20:2:{errno.EIO}", 0),
-    "three writes of a full disk": (f"write:21:3:{errno.ENOSPC}", 0),
-    "a late write": (f"write:33:1:{errno.EIO}", 0),
-    "each third write": (",".join(f"write:{at}:1:{errno.EIO}" for at in range(24, 37, 3)), 0),
-    "a sync": (f"sync:22:1:{errno.EIO}", 1),
-    "a sync of a full disk": (f"sync:24:1:{errno.ENOSPC}", 1),
-    "the truncation at the end": (f"truncate:1:1:{errno.EIO}", 1),
+    "two writes": (f"write:34:2:{errno.EIO}", 0),
+    "three writes of a full disk": (f"write:35:3:{errno.ENOSPC}", 0),
+    "a late write": (f"write:47:1:{errno.EIO}", 0),
+    "each third write": (",".join(f"write:{at}:1:{errno.EIO}" for at in range(38, 51, 3)), 0),
+    "a sync": (f"sync:39:1:{errno.EIO}", 1),
+    "a sync of a full disk": (f"sync:41:1:{errno.ENOSPC}", 1),
+    "the truncation at the end": (f"truncate:3:1:{errno.EIO}", 1),
 }
 
 
@@ -98,7 +98,7 @@ def test_failing_calls(program, disk, tmp_path, calls, status):
     assert all(logs[f"d{number}"][version] == (f"c{number}", version + 1) for number, version in acknowledged)
 
 
-@pytest.mark.parametrize("call", ["write:1", "sync:1", "sync:12"])
+@pytest.mark.parametrize("call", ["write:1", "sync:1", "sync:12", "sync:25"])
 def test_a_store_that_is_not_created(program, disk, tmp_path, call):
     command = [program, "--listen", "127.0.0.1:0", "--store", str(tmp_path / "store")]
     settings = {"LD_PRELOAD": disk, "STORE": str(tmp_path / "store"), "FAIL": f"{call}:1:{errno.EIO}"}

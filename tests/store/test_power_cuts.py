@@ -22,7 +22,7 @@ from store.powercut.states import File, follow, outcome, states_at, write_state
 from support.server import END, Server
 
 SOURCE = pathlib.Path(__file__).with_name("powercut") / "recorder.c"
-FIRST = 40  # events of the disk, those of a new store, after each of which the power is cut
+FIRST = 90  # events of the disk, those of a new store, after each of which the power is cut
 READ = END * 10  # seconds in which the program must have read a state
 STARTS, FEW_STARTS = 10, 40  # of so many states before anything was sent the program starts with one
 BLOCK = 1024  # numbers of sessions, which are reserved at once
@@ -241,7 +241,7 @@ def test_states_with_failing_writes(program, recorder, folder, seed):
 
 
 def test_states_after_a_failed_sync(program, recorder, folder, seed):
-    recording = Recording(program, recorder, folder, seed, 4, 24, fail_sync=25)
+    recording = Recording(program, recorder, folder, seed, 4, 24, fail_sync=42)
     check(recording, 60, seed, starts_of_new=FEW_STARTS)
     check_that_a_failed_sync_is_the_last_call(recording)
 
@@ -275,7 +275,7 @@ def test_a_thousand_states(program, recorder, folder, seed, number):
         {"fail_write": 11},
         {"slow_sync": 5_000, "kill": False},
         {"kill": False},
-        {"fail_sync": 90},
+        {"fail_sync": 100},
     ]
     recording = Recording(program, recorder, folder, f"{seed}-{number}", 12, 24, **faults[number])
     check(recording, 1_000, seed, read_by_program=40, starts=100)
