@@ -7,8 +7,8 @@ use Rattle.std.specs.Prelude.{nat_eq, bytes_eq}
 use Rattle.std.specs.Option.{is_some}
 use Rattle.sdb_oplog.specs.Plain.{edit, PlainEntry}
 use Rattle.sdb_oplog.specs.Rebase.{rebase}
-use Rattle.sdb_oplog.specs.Snap.{snap, document_of, stored_at, has_identifier}
-use Rattle.sdb_oplog.specs.RebasedContents.{IsContentMadeFor, IsMadeAtBase, AreMadeAtBaseFrom}
+use Rattle.sdb_oplog.specs.Snap.{snap, stored_at, has_identifier}
+use Rattle.sdb_oplog.specs.RebasedContents.{IsMadeAtBase, AreMadeAtBaseFrom}
 use Rattle.sdb_oplog.specs.laws.LogLaws.{append_nil}
 use Rattle.sdb_client_model.specs.Client.{SentEdit, Client}
 use Rattle.sdb_client_model.specs.Invariant.{IsEdit, AreEdits, AreSeqsBelow, StoresSentEdit, AreEntriesOfSentEdit, IsSentEditOf, IsSentOrNone, FollowsLog}
@@ -123,14 +123,12 @@ module _ (log : List PlainEntry) (source : List ℕ) (c : Client) (e : PlainEntr
       let reached = f.version_reached in
       let base = r.base_reached in
       let at_version = take-append-le c.version log (e ∷ []) reached in
-      let at_base = take-append-le t.base log (e ∷ []) (omega arith) in
       record {
         operation = r.operation;
         queue = r.queue;
         first = r.first;
         base_reached = r.base_reached;
         rebased = ap (λ l. rebase (edit t.operation) (drop t.base l)) at_version ∙ r.rebased;
-        made = subst (λ l. IsContentMadeFor (edit t.operation) (document_of l)) (sym at_base) r.made;
         edits = subst AreEdits (sym (drop-append-le t.base log (e ∷ []) (omega arith))) (edits_append (drop t.base log) e r.edits next.edits);
         not_processed = ap (stored_at source t.seq) at_version ∙ r.not_processed;
         entry = entries_append log e source t r.entry (next.sent t is);
@@ -148,7 +146,6 @@ module _ (log : List PlainEntry) (source : List ℕ) (c : Client) (e : PlainEntr
         version_reached = omega (arith, length-append log (e ∷ []));
         document = ap snap (take-append-le c.version log (e ∷ []) reached) ∙ f.document;
         edits = subst AreEdits (sym (drop-append-le c.version log (e ∷ []) reached)) (edits_append (drop c.version log) e f.edits next.edits);
-        pending = f.pending;
         sent = sent_append_at c.sent refl f.sent;
         seqs = seqs_append log e c.next_seq source f.seqs next.seq;
       }

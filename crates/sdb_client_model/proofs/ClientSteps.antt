@@ -5,20 +5,19 @@ use Rattle.std.proofs.lemmas.List.Elements.{Contains-push, Contains-append_left,
 use Rattle.std.specs.Prelude.{bytes_eq, Contains}
 use Rattle.std.specs.Option.{is_some}
 use Rattle.sdb_component.specs.Plain.{PlainComponent}
+use Rattle.sdb_value.specs.Value.{Value}
 use Rattle.sdb_apply.specs.Apply.{apply}
 use Rattle.sdb_transform.specs.Cross.{and_then}
-use Rattle.sdb_oplog.specs.Plain.{edit, PlainEntry}
+use Rattle.sdb_oplog.specs.Plain.{PlainContent, create, delete, edit, PlainEntry}
 use Rattle.sdb_oplog.specs.Rebase.{rebase}
 use Rattle.sdb_oplog.specs.Snap.{snap, stored_at, has_identifier}
 use Rattle.sdb_oplog.specs.Decide.{missed_entries}
-use Rattle.sdb_oplog.specs.RebasedContents.{IsContentMadeFor, AreEntriesMadeFor}
 use Rattle.sdb_oplog.proofs.LogGrowth.{none_more}
-use Rattle.sdb_client_model.specs.Client.{SentEdit, Client, apply_all, shown_document, ArePendingMade, cross_pending, is_sent_edit, after_edit, next_sent, after_send, after_acknowledgement, after_content, after_entry}
-use Rattle.sdb_client_model.specs.Machine.{SubmittedEdit, SharedDocument, with_client, with_changed_client, after_sending, IsMadeForShown, ProcessesInRange}
+use Rattle.sdb_client_model.specs.Client.{SentEdit, Client, apply_all, shown_document, PendingCrossing, cross_pending, is_sent_edit, after_edit, next_sent, after_send, after_acknowledgement, after_content, after_entry}
+use Rattle.sdb_client_model.specs.Machine.{SubmittedEdit, SharedDocument, with_client, with_changed_client, after_sending}
 use Rattle.sdb_client_model.specs.Invariant.{AreEdits, IsSentEditOf, IsSentOrNone, FollowsLog, IsStoredOrSent, IsConsistent}
-use Rattle.sdb_client_model.specs.Convergence.{AppliesReceived, IsProcessed}
-use Rattle.sdb_client_model.proofs.PendingLemmas.{same_some, PendingCrossed, pending_crossed, first_crossed, made_for_shown, pending_made_append}
-use Rattle.sdb_client_model.proofs.EntryLemmas.{same_ok, same_operation, take_next, drop_next, below_length, EntryAt, entry_at, rebased_at, rebase_one_more}
+use Rattle.sdb_client_model.proofs.PendingLemmas.{same_some, some_step, map_step, first_crossed}
+use Rattle.sdb_client_model.proofs.EntryLemmas.{same_ok, same_operation, take_next, drop_next, below_length, EntryAt, applied_entry, rebased_at, rebase_one_more}
 use Rattle.sdb_client_model.proofs.AppendLemmas.{same_source, other_source, identifier_parts, stored_of_entry, not_stored_of_seqs, seqs_of_prefix, seqs_below_next, entries_of_seqs, entry_of}
 
 -- ---- one client is changed
@@ -55,7 +54,6 @@ module _ (s : SharedDocument) (h : IsConsistent s) (source : List ℕ) where
   with_same_sent : (c : Client) → FollowsLog s.log source c → c.sent ≡ old.sent → c.next_seq ≡ old.next_seq → IsConsistent (with_changed_client s source c)
   with_same_sent c f is same = record {
     log_is_made = h.log_is_made;
-    entries_made = h.entries_made;
     clients = λ other. client_at (FollowsLog s.log other) s.clients source other c (h.clients other) (λ e. subst (λ x. FollowsLog s.log x c) e f);
     submitted = λ m has.
         client_at (λ x. IsStoredOrSent s.log x m) s.clients source m.source c (h.submitted m has)
@@ -75,23 +73,20 @@ module _ (s : SharedDocument) (h : IsConsistent s) (source : List ℕ) where
     first = ap (λ l. l ++ op ∷ []) r.first;
     base_reached = r.base_reached;
     rebased = r.rebased;
-    made = r.made;
     edits = r.edits;
     not_processed = r.not_processed;
     entry = r.entry;
     seq_is_used = r.seq_is_used;
   }
 
-  pub consistent_edit : (op : List PlainComponent) → IsMadeForShown op (apply_all old.pending old.document) → IsConsistent (with_changed_client s source (after_edit op old))
-  consistent_edit op made =
+  pub consistent_edit : (op : List PlainComponent) → IsConsistent (with_changed_client s source (after_edit op old))
+  consistent_edit op =
       let f = h.clients source in
-      let d = made_for_shown op (apply_all old.pending old.document) made in
       with_same_sent (after_edit op old)
       (record {
         version_reached = f.version_reached;
         document = f.document;
         edits = f.edits;
-        pending = pending_made_append old.pending op old.document d.0 f.pending d.1 d.2;
         sent = sent_with_edit op old.sent f.sent;
         seqs = f.seqs;
       }) refl refl
@@ -108,7 +103,6 @@ module _ (s : SharedDocument) (h : IsConsistent s) (source : List ℕ) where
     new_sent : IsSentEditOf s.log source (after_send op old) sent
     new_sent =
         let f = h.clients source in
-        let made = subst (λ ops. ArePendingMade ops old.document) first f.pending in
         let none_between : drop old.version (take old.version s.log) ≡ [] = drop_all old.version (take old.version s.log) (omega (arith, length-take old.version s.log)) in
         record {
           operation = op;
@@ -116,7 +110,6 @@ module _ (s : SharedDocument) (h : IsConsistent s) (source : List ℕ) where
           first = first;
           base_reached = omega arith;
           rebased = ap (rebase (edit op)) none_between;
-          made = subst (IsContentMadeFor (edit op)) (sym (ap (λ o. unwrap_or o None) f.document)) made.0;
           edits = f.edits;
           not_processed = not_stored_of_seqs (take old.version s.log) source old.next_seq (seqs_of_prefix s.log old.version old.next_seq source f.seqs);
           entry = entries_of_seqs s.log source sent f.seqs;
@@ -130,7 +123,6 @@ module _ (s : SharedDocument) (h : IsConsistent s) (source : List ℕ) where
           version_reached = f.version_reached;
           document = f.document;
           edits = f.edits;
-          pending = f.pending;
           sent = new_sent;
           seqs = seqs_below_next s.log old.next_seq source f.seqs;
         }
@@ -172,7 +164,6 @@ module _ (s : SharedDocument) (h : IsConsistent s) (source : List ℕ) where
     pub consistent_send : IsConsistent (after_sending s source op)
     consistent_send = record {
       log_is_made = h.log_is_made;
-      entries_made = h.entries_made;
       clients = λ other. client_at (FollowsLog s.log other) s.clients source other (after_send op old) (h.clients other) (λ e. subst (λ x. FollowsLog s.log x (after_send op old)) e sent_follows);
       submitted = λ m has. submitted_after m (Contains-push_cases s.submitted (record { source = source; sent = sent }) m has);
       network = λ other t.
@@ -182,10 +173,7 @@ module _ (s : SharedDocument) (h : IsConsistent s) (source : List ℕ) where
 
   -- ---- an entry
 
-  module _ (e : PlainEntry) (later : List PlainEntry) (is : drop old.version s.log ≡ e ∷ later) (at : EntryAt s.log old.version e old.document) where
-    next_document : snap (take (old.version + 1) s.log) ≡ Some (Some at.after)
-    next_document = ap (λ v. snap (take v s.log)) (add-one old.version) ∙ at.document
-
+  module _ (e : PlainEntry) (later : List PlainEntry) (is : drop old.version s.log ≡ e ∷ later) where
     next_edits : AreEdits (drop (old.version + 1) s.log)
     next_edits =
         subst AreEdits (sym (ap (λ v. drop v s.log) (add-one old.version) ∙ drop_next s.log old.version e later is))
@@ -194,188 +182,146 @@ module _ (s : SharedDocument) (h : IsConsistent s) (source : List ℕ) where
     next_reached : old.version + 1 ≤ length s.log
     next_reached = let below = below_length s.log old.version e later is in omega arith
 
-    -- the sent edit is acknowledged
-    abbrev acknowledged : List (List PlainComponent) → Client
-    acknowledged ops = record { version = old.version + 1; document = at.after; pending = ops; sent = None; next_seq = old.next_seq }
+    -- the entry of the sent edit is what is pending first
+    own_content : (t : SentEdit) → has_identifier source t.seq e ≡ true → (r : IsSentEditOf s.log source old t) → e.content ≡ edit r.operation
+    own_content t own r =
+        let p = identifier_parts source t.seq e own in
+        let entry = entry_of s.log old.version e later source t is r.entry p.0 p.1 in
+        let stored = rebased_at s.log old.version e later h.log_is_made is in
+        let content = ap (λ m. rebase m (missed_entries (take old.version s.log) e.arrived)) (sym entry.operation) ∙ stored in
+        let base = ap (λ v. rebase (edit t.operation) (drop (unwrap_or v (length (take old.version s.log))) (take old.version s.log))) (sym entry.base) ∙ content in
+        same_ok e.content (edit r.operation) (sym base ∙ r.rebased)
 
-    module _ (t : SentEdit) (is_sent : old.sent ≡ Some t) (own : has_identifier source t.seq e ≡ true) (r : IsSentEditOf s.log source old t) where
-      -- what is stored is what was pending
-      same_content : at.operation ≡ r.operation
-      same_content =
-          let p = identifier_parts source t.seq e own in
-          let entry = entry_of s.log old.version e later source t is r.entry p.0 p.1 in
-          let stored = rebased_at s.log old.version e later h.log_is_made is in
-          let content = ap (λ m. rebase m (missed_entries (take old.version s.log) e.arrived)) (sym entry.operation) ∙ stored in
-          let base = ap (λ v. rebase (edit t.operation) (drop (unwrap_or v (length (take old.version s.log))) (take old.version s.log))) (sym entry.base) ∙ content in
-          same_operation at.operation r.operation (sym at.is ∙ same_ok e.content (edit r.operation) (sym base ∙ r.rebased))
+    module _ (at : EntryAt s.log old.version e old.document) where
+      next_document : snap (take (old.version + 1) s.log) ≡ Some (Some at.after)
+      next_document = ap (λ v. snap (take v s.log)) (add-one old.version) ∙ at.document
 
-      first_applied : apply r.operation old.document ≡ Some at.after
-      first_applied = ap (λ op. apply op old.document) (sym same_content) ∙ at.applied
+      -- the sent edit is acknowledged
+      abbrev pub acknowledged : List (List PlainComponent) → Client
+      acknowledged ops = record { version = old.version + 1; document = at.after; pending = ops; sent = None; next_seq = old.next_seq }
 
-      acknowledged_follows : FollowsLog s.log source (acknowledged r.queue)
-      acknowledged_follows =
-          let f = h.clients source in
-          let made = subst (λ ops. ArePendingMade ops old.document) r.first f.pending in
-          record {
-            version_reached = next_reached;
-            document = next_document;
-            edits = next_edits;
-            pending = subst (ArePendingMade r.queue) (same_some made.1 at.after (sym made.2 ∙ first_applied)) made.3;
-            sent = tt;
-            seqs = f.seqs;
-          }
+      module _ (t : SentEdit) (is_sent : old.sent ≡ Some t) (own : has_identifier source t.seq e ≡ true) (r : IsSentEditOf s.log source old t) where
+        pub first_applied : apply r.operation old.document ≡ Some at.after
+        first_applied = ap (λ op. apply op old.document) (same_operation r.operation at.operation (sym (own_content t own r) ∙ at.is)) ∙ at.applied
 
-      acknowledgement : after_acknowledgement old old.pending ≡ Some (acknowledged r.queue)
-      acknowledgement =
-          ap (after_acknowledgement old) r.first
-          ∙ ap (option_map (λ d. record { version = old.version + 1; document = d; pending = r.queue; sent = None; next_seq = old.next_seq })) first_applied
+        pub acknowledgement : after_acknowledgement old old.pending ≡ Some (acknowledged r.queue)
+        acknowledgement =
+            ap (after_acknowledgement old) r.first
+            ∙ ap (option_map (λ d. record { version = old.version + 1; document = d; pending = r.queue; sent = None; next_seq = old.next_seq })) first_applied
 
-      acknowledged_shown : shown_document (acknowledged r.queue) ≡ shown_document old
-      acknowledged_shown = sym (ap (λ ops. apply_all ops old.document) r.first ∙ ap (option_and_then (apply_all r.queue)) first_applied)
+        pub acknowledged_shown : shown_document (acknowledged r.queue) ≡ shown_document old
+        acknowledged_shown = sym (ap (λ ops. apply_all ops old.document) r.first ∙ ap (option_and_then (apply_all r.queue)) first_applied)
 
-      acknowledged_submitted : (m : SubmittedEdit) → source ≡ m.source → IsStoredOrSent s.log old m → IsStoredOrSent s.log (acknowledged r.queue) m
-      acknowledged_submitted m from k = record {
-        seq_is_used = k.seq_is_used;
-        stored_or_sent = inl (stored k.stored_or_sent);
-        same = λ t bad seq. cc;
-      }
-        where
-          stored : (is_some (stored_at m.source m.sent.seq s.log) ≡ true) ⊎ (old.sent ≡ Some m.sent) → is_some (stored_at m.source m.sent.seq s.log) ≡ true
-          stored (inl done) = done
-          stored (inr this) =
-              let same = same_some t m.sent (sym is_sent ∙ this) in
-              subst (λ x. is_some (stored_at x m.sent.seq s.log) ≡ true) from
-              (subst (λ (x : SentEdit). is_some (stored_at source x.seq s.log) ≡ true) same (stored_of_entry s.log old.version e later source t.seq is own))
+        acknowledged_follows : FollowsLog s.log source (acknowledged r.queue)
+        acknowledged_follows =
+            let f = h.clients source in
+            record { version_reached = next_reached; document = next_document; edits = next_edits; sent = tt; seqs = f.seqs }
 
-      pub consistent_acknowledged : (c : Client) → after_acknowledgement old old.pending ≡ Some c → IsConsistent (with_changed_client s source c)
-      consistent_acknowledged c k =
-          subst (λ x. IsConsistent (with_changed_client s source x)) (same_some (acknowledged r.queue) c (sym acknowledgement ∙ k))
-          (record {
-            log_is_made = h.log_is_made;
-            entries_made = h.entries_made;
-            clients = λ other.
-                client_at (FollowsLog s.log other) s.clients source other (acknowledged r.queue) (h.clients other)
-                (λ e. subst (λ x. FollowsLog s.log x (acknowledged r.queue)) e acknowledged_follows);
-            submitted = λ m has.
-                client_at (λ x. IsStoredOrSent s.log x m) s.clients source m.source (acknowledged r.queue) (h.submitted m has)
-                (λ e. acknowledged_submitted m e (subst (λ x. IsStoredOrSent s.log (s.clients x) m) (sym e) (h.submitted m has)));
-            network = λ other t.
-                client_at (λ (x : Client). x.sent ≡ Some t → Contains s.submitted (record { source = other; sent = t })) s.clients source other (acknowledged r.queue) (h.network other t)
-                (λ e none. never_sent t none);
-          })
+        acknowledged_submitted : (m : SubmittedEdit) → source ≡ m.source → IsStoredOrSent s.log old m → IsStoredOrSent s.log (acknowledged r.queue) m
+        acknowledged_submitted m from k = record {
+          seq_is_used = k.seq_is_used;
+          stored_or_sent = inl (stored k.stored_or_sent);
+          same = λ t bad seq. cc;
+        }
+          where
+            stored : (is_some (stored_at m.source m.sent.seq s.log) ≡ true) ⊎ (old.sent ≡ Some m.sent) → is_some (stored_at m.source m.sent.seq s.log) ≡ true
+            stored (inl done) = done
+            stored (inr this) =
+                let same = same_some t m.sent (sym is_sent ∙ this) in
+                subst (λ x. is_some (stored_at x m.sent.seq s.log) ≡ true) from
+                (subst (λ (x : SentEdit). is_some (stored_at source x.seq s.log) ≡ true) same (stored_of_entry s.log old.version e later source t.seq is own))
 
-    -- another one's edit is received
-    module _ (other : is_sent_edit source old.sent e ≡ false) (p : PendingCrossed old.pending at.operation old.document at.after) where
-      abbrev received : Client
-      received = record { version = old.version + 1; document = at.after; pending = p.crossing.pending; sent = old.sent; next_seq = old.next_seq }
+        consistent_acknowledged : IsConsistent (with_changed_client s source (acknowledged r.queue))
+        consistent_acknowledged = record {
+          log_is_made = h.log_is_made;
+          clients = λ other.
+              client_at (FollowsLog s.log other) s.clients source other (acknowledged r.queue) (h.clients other)
+              (λ e. subst (λ x. FollowsLog s.log x (acknowledged r.queue)) e acknowledged_follows);
+          submitted = λ m has.
+              client_at (λ x. IsStoredOrSent s.log x m) s.clients source m.source (acknowledged r.queue) (h.submitted m has)
+              (λ e. acknowledged_submitted m e (subst (λ x. IsStoredOrSent s.log (s.clients x) m) (sym e) (h.submitted m has)));
+          network = λ other t.
+              client_at (λ (x : Client). x.sent ≡ Some t → Contains s.submitted (record { source = other; sent = t })) s.clients source other (acknowledged r.queue) (h.network other t)
+              (λ e none. never_sent t none);
+        }
 
-      received_sent : (o : Option SentEdit) → old.sent ≡ o → IsSentOrNone s.log source old o → IsSentOrNone s.log source received o
-      received_sent None none r = tt
-      received_sent (Some t) is_sent r =
-          let first = first_crossed r.operation at.operation r.queue p.crossing (ap (λ ops. cross_pending ops at.operation) (sym r.first) ∙ p.crossed) in
-          let next : take (old.version + 1) s.log ≡ take old.version s.log ++ e ∷ [] = ap (λ v. take v s.log) (add-one old.version) ∙ take_next s.log old.version e later is in
-          let reached = (h.clients source).version_reached in
-          let base = r.base_reached in
-          let within : t.base ≤ length (take old.version s.log) = omega (arith, length-take old.version s.log) in
-          record {
-            operation = first.crossing.left;
-            queue = first.rest;
-            first = first.first;
-            base_reached = omega arith;
-            rebased =
-                ap (λ l. rebase (edit t.operation) (drop t.base l)) next
-                ∙ ap (rebase (edit t.operation)) (drop-append-le t.base (take old.version s.log) (e ∷ []) within)
-                ∙ rebase_one_more (drop t.base (take old.version s.log)) e (edit t.operation) r.operation at.operation first.crossing r.rebased at.is first.crossed;
-            made = r.made;
-            edits = r.edits;
-            not_processed =
-                ap (stored_at source t.seq) next
-                ∙ none_more (take old.version s.log) source t.seq e r.not_processed (sym (ap (λ o. is_sent_edit source o e) is_sent) ∙ other);
-            entry = r.entry;
-            seq_is_used = r.seq_is_used;
-          }
+      -- another one's edit is received
+      module _ (x : PendingCrossing) (crossed : cross_pending old.pending at.operation ≡ Some x) where
+        abbrev pub received : Client
+        received = record { version = old.version + 1; document = at.after; pending = x.pending; sent = old.sent; next_seq = old.next_seq }
 
-      received_follows : FollowsLog s.log source received
-      received_follows =
-          let f = h.clients source in
-          record {
-            version_reached = next_reached;
-            document = next_document;
-            edits = next_edits;
-            pending = p.made;
-            sent = received_sent old.sent refl f.sent;
-            seqs = f.seqs;
-          }
+        pub received_client : after_content old e.content ≡ Some received
+        received_client =
+            ap (after_content old) at.is
+            ∙ ap (λ o. and_then o (λ d.
+            and_then (cross_pending old.pending at.operation) (λ x.
+            Some (record { version = old.version + 1; document = d; pending = x.pending; sent = old.sent; next_seq = old.next_seq })))) at.applied
+            ∙ ap (λ o. and_then o (λ x.
+            Some (record { version = old.version + 1; document = at.after; pending = x.pending; sent = old.sent; next_seq = old.next_seq }))) crossed
 
-      received_client : after_content old e.content ≡ Some received
-      received_client =
-          ap (after_content old) at.is
-          ∙ ap (λ o. and_then o (λ d.
-          and_then (cross_pending old.pending at.operation) (λ x.
-          Some (record { version = old.version + 1; document = d; pending = x.pending; sent = old.sent; next_seq = old.next_seq })))) at.applied
-          ∙ ap (λ o. and_then o (λ x.
-          Some (record { version = old.version + 1; document = at.after; pending = x.pending; sent = old.sent; next_seq = old.next_seq }))) p.crossed
+        module _ (other : is_sent_edit source old.sent e ≡ false) where
+          received_sent : (o : Option SentEdit) → old.sent ≡ o → IsSentOrNone s.log source old o → IsSentOrNone s.log source received o
+          received_sent None none r = tt
+          received_sent (Some t) is_sent r =
+              let first = first_crossed r.operation at.operation r.queue x (ap (λ ops. cross_pending ops at.operation) (sym r.first) ∙ crossed) in
+              let next : take (old.version + 1) s.log ≡ take old.version s.log ++ e ∷ [] = ap (λ v. take v s.log) (add-one old.version) ∙ take_next s.log old.version e later is in
+              let reached = (h.clients source).version_reached in
+              let base = r.base_reached in
+              let within : t.base ≤ length (take old.version s.log) = omega (arith, length-take old.version s.log) in
+              record {
+                operation = first.crossing.left;
+                queue = first.rest;
+                first = first.first;
+                base_reached = omega arith;
+                rebased =
+                    ap (λ l. rebase (edit t.operation) (drop t.base l)) next
+                    ∙ ap (rebase (edit t.operation)) (drop-append-le t.base (take old.version s.log) (e ∷ []) within)
+                    ∙ rebase_one_more (drop t.base (take old.version s.log)) e (edit t.operation) r.operation at.operation first.crossing r.rebased at.is first.crossed;
+                edits = r.edits;
+                not_processed =
+                    ap (stored_at source t.seq) next
+                    ∙ none_more (take old.version s.log) source t.seq e r.not_processed (sym (ap (λ o. is_sent_edit source o e) is_sent) ∙ other);
+                entry = r.entry;
+                seq_is_used = r.seq_is_used;
+              }
 
-      pub consistent_received : (c : Client) → after_content old e.content ≡ Some c → IsConsistent (with_changed_client s source c)
-      consistent_received c k =
-          subst (λ x. IsConsistent (with_changed_client s source x)) (same_some received c (sym received_client ∙ k))
-          (with_same_sent received received_follows refl refl)
+          received_follows : FollowsLog s.log source received
+          received_follows =
+              let f = h.clients source in
+              record { version_reached = next_reached; document = next_document; edits = next_edits; sent = received_sent old.sent refl f.sent; seqs = f.seqs }
+
+          consistent_received : IsConsistent (with_changed_client s source received)
+          consistent_received = with_same_sent received received_follows refl refl
+
+    -- the entry at the client's version, if this operation of it applies
+    abbrev entry_with : (op : List PlainComponent) (after : Value) → e.content ≡ edit op → apply op old.document ≡ Some after → EntryAt s.log old.version e old.document
+    entry_with op after content applied = applied_entry s.log old.version e later old.document op after (h.clients source).document is content applied
 
     -- the client after the entry, by whether it is the sent edit
     consistent_own : (o : Option SentEdit) (c : Client) → old.sent ≡ o → IsSentOrNone s.log source old o → is_sent_edit source o e ≡ true → after_acknowledgement old old.pending ≡ Some c
         → IsConsistent (with_changed_client s source c)
     consistent_own None c is_sent r own k = cc
-    consistent_own (Some t) c is_sent r own k = consistent_acknowledged t is_sent own r c k
+    consistent_own (Some t) c is_sent r own k =
+        let d = map_step (apply r.operation old.document) (λ d. record { version = old.version + 1; document = d; pending = r.queue; sent = None; next_seq = old.next_seq }) c
+        (sym (ap (after_acknowledgement old) r.first) ∙ k) in
+        let at = entry_with r.operation d.0 (own_content t own r) d.1 in
+        subst (λ x. IsConsistent (with_changed_client s source x)) d.2 (consistent_acknowledged at t is_sent own r)
+
+    consistent_other : (m : PlainContent) (c : Client) → e.content ≡ m → is_sent_edit source old.sent e ≡ false → after_content old m ≡ Some c → IsConsistent (with_changed_client s source c)
+    consistent_other (create v) c content other k = cc
+    consistent_other delete c content other k = cc
+    consistent_other (edit op) c content other k =
+        let d = some_step (apply op old.document) (λ d.
+        and_then (cross_pending old.pending op) (λ x.
+        Some (record { version = old.version + 1; document = d; pending = x.pending; sent = old.sent; next_seq = old.next_seq }))) c k in
+        let x = some_step (cross_pending old.pending op) (λ x. Some (record { version = old.version + 1; document = d.0; pending = x.pending; sent = old.sent; next_seq = old.next_seq })) c d.2 in
+        let at = entry_with op d.0 content d.1 in
+        subst (λ x. IsConsistent (with_changed_client s source x)) (same_some (received at x.0 x.1) c x.2) (consistent_received at x.0 x.1 other)
 
     consistent_after : (b : Bool) (c : Client) → is_sent_edit source old.sent e ≡ b → cond b (after_acknowledgement old old.pending) (after_content old e.content) ≡ Some c
-        → ProcessesInRange source old (e ∷ later) → IsConsistent (with_changed_client s source c)
-    consistent_after true c own k range = consistent_own old.sent c refl (h.clients source).sent own k
-    consistent_after false c other k range =
-        consistent_received other
-        (pending_crossed old.pending at.operation old.document at.after at.formed (h.clients source).pending at.made at.applied (range at.operation other at.is)) c k
+        → IsConsistent (with_changed_client s source c)
+    consistent_after true c own k = consistent_own old.sent c refl (h.clients source).sent own k
+    consistent_after false c other k = consistent_other e.content c refl other k
 
-    -- the client after the entry exists
-    not_other : {G : Type 0} (b : Bool) → b ≡ true → b ≡ false → G
-    not_other b t f = let bad : true ≡ false = sym t ∙ f in cc
-
-    processed_own : (o : Option SentEdit) → old.sent ≡ o → IsSentOrNone s.log source old o → is_sent_edit source old.sent e ≡ true → is_sent_edit source o e ≡ true → IsProcessed source e old
-    processed_own None is_sent r own k = cc
-    processed_own (Some t) is_sent r own k = record {
-      client = acknowledged r.queue;
-      client_is = ap (λ b. cond b (after_acknowledgement old old.pending) (after_content old e.content)) own ∙ acknowledgement t is_sent k r;
-      acknowledged = λ own. acknowledged_shown t is_sent k r;
-      received = λ op other is. not_other (is_sent_edit source old.sent e) own other;
-    }
-
-    applies_received : (other : is_sent_edit source old.sent e ≡ false) (p : PendingCrossed old.pending at.operation old.document at.after) (op : List PlainComponent) → e.content ≡ edit op
-        → AppliesReceived op old (received other p)
-    applies_received other p op is =
-        subst (λ x. AppliesReceived x old (received other p)) (same_operation at.operation op (sym at.is ∙ is))
-        (record { crossing = p.crossing; crossed = p.crossed; shown = sym p.shown })
-
-    processed_after : (b : Bool) → is_sent_edit source old.sent e ≡ b → ProcessesInRange source old (e ∷ later) → IsProcessed source e old
-    processed_after true own range = processed_own old.sent refl (h.clients source).sent own own
-    processed_after false other range =
-        let p = pending_crossed old.pending at.operation old.document at.after at.formed (h.clients source).pending at.made at.applied (range at.operation other at.is) in
-        record {
-          client = received other p;
-          client_is = ap (λ b. cond b (after_acknowledgement old old.pending) (after_content old e.content)) other ∙ received_client other p;
-          acknowledged = λ own. not_other (is_sent_edit source old.sent e) own other;
-          received = λ op differs is. applies_received other p op is;
-        }
-
-  pub entry_is_processed : (e : PlainEntry) (later : List PlainEntry) → AreEntriesMadeFor s.log None → drop old.version s.log ≡ e ∷ later
-      → ProcessesInRange source old (drop old.version s.log) → IsProcessed source e old
-  entry_is_processed e later made is range =
-      let f = h.clients source in
-      let edits = subst AreEdits is f.edits in
-      let at = entry_at s.log old.version e later old.document made f.document is edits.0 in
-      processed_after e later is at (is_sent_edit source old.sent e) refl (subst (ProcessesInRange source old) is range)
-
-  pub consistent_entry : (e : PlainEntry) (later : List PlainEntry) (c : Client) → AreEntriesMadeFor s.log None → drop old.version s.log ≡ e ∷ later → after_entry source e old ≡ Some c
-      → ProcessesInRange source old (drop old.version s.log) → IsConsistent (with_changed_client s source c)
-  consistent_entry e later c made is k range =
-      let f = h.clients source in
-      let edits = subst AreEdits is f.edits in
-      let at = entry_at s.log old.version e later old.document made f.document is edits.0 in
-      consistent_after e later is at (is_sent_edit source old.sent e) c refl k (subst (ProcessesInRange source old) is range)
+    pub consistent_entry : (c : Client) → after_entry source e old ≡ Some c → IsConsistent (with_changed_client s source c)
+    consistent_entry c k = consistent_after (is_sent_edit source old.sent e) c refl k

@@ -55,7 +55,7 @@ abbrev IsFormedDocument : Option Value → Type 0
 IsFormedDocument None = ⊤
 IsFormedDocument (Some d) = IsFormed d
 
-apply_edit : (op : List PlainComponent) (d e : Value) → apply op d ≡ Some e → apply_content (edit op) (Some d) ≡ Ok (Some e)
+pub apply_edit : (op : List PlainComponent) (d e : Value) → apply op d ≡ Some e → apply_content (edit op) (Some d) ≡ Ok (Some e)
 apply_edit op d e h = ap (λ o. result_and_then (λ f. Ok (Some f)) (option_map_or (λ f. Ok f) o (Err E8))) h
 
 formed_after : (m : PlainContent) (d n : Option Value) → IsFormedDocument d → IsContentMadeFor m d → apply_content m d ≡ Ok n → IsFormedDocument n
@@ -83,37 +83,44 @@ edit_of (create v) h = absurd h
 edit_of delete h = absurd h
 edit_of (edit op) h = (op, refl)
 
--- the edit at a version, where d is the document
+-- the edit at a version, where d is the document, and the document after it
 pub record EntryAt (log : List PlainEntry) (v : ℕ) (e : PlainEntry) (d : Value) : Type 0 where
   pub operation : List PlainComponent
   pub is : e.content ≡ edit operation
-  pub formed : IsFormed d
-  pub made : AreMadeFor operation d
   pub after : Value
   pub applied : apply operation d ≡ Some after
   pub document : snap (take (suc v) log) ≡ Some (Some after)
 
-pub entry_at : (log : List PlainEntry) (v : ℕ) (e : PlainEntry) (later : List PlainEntry) (d : Value) → AreEntriesMadeFor log None → snap (take v log) ≡ Some (Some d)
-    → drop v log ≡ e ∷ later → IsEdit e.content → EntryAt log v e d
-entry_at log v e later d h s is edits =
+abbrev pub applied_entry : (log : List PlainEntry) (v : ℕ) (e : PlainEntry) (later : List PlainEntry) (d : Value) (op : List PlainComponent) (after : Value) → snap (take v log) ≡ Some (Some d)
+    → drop v log ≡ e ∷ later → e.content ≡ edit op → apply op d ≡ Some after → EntryAt log v e d
+applied_entry log v e later d op after s is content applied = record {
+  operation = op;
+  is = content;
+  after = after;
+  applied = applied;
+  document =
+      ap snap (take_next log v e later is)
+      ∙ snap_one (take v log) e None (Some d) s
+      ∙ ap (λ m. result_ok (apply_content m (Some d))) content
+      ∙ ap result_ok (apply_edit op d after applied);
+}
+
+-- its operation is made for the document
+pub record MadeEntryAt (log : List PlainEntry) (v : ℕ) (e : PlainEntry) (d : Value) : Type 0 where
+  pub at : EntryAt log v e d
+  pub formed : IsFormed d
+  pub made : AreMadeFor at.operation d
+
+pub made_entry : (log : List PlainEntry) (v : ℕ) (e : PlainEntry) (later : List PlainEntry) (d : Value) → AreEntriesMadeFor log None → snap (take v log) ≡ Some (Some d)
+    → drop v log ≡ e ∷ later → IsEdit e.content → MadeEntryAt log v e d
+unfolding edit_of
+made_entry log v e later d h s is edits =
     let rest = made_after (take v log) (drop v log) None (Some d) tt (subst (λ l. AreEntriesMadeFor l None) (sym (take-append-drop v log)) h) s in
     let made = subst (λ l. AreEntriesMadeFor l (Some d)) is rest.made in
     let op = edit_of e.content edits in
     let here : AreMadeFor op.0 d = subst (λ m. IsContentMadeFor m (Some d)) op.1 made.0 in
     let r = run_of op.0 d here in
-    record {
-      operation = op.0;
-      is = op.1;
-      formed = rest.formed;
-      made = here;
-      after = r.result;
-      applied = r.applied;
-      document =
-          ap snap (take_next log v e later is)
-          ∙ snap_one (take v log) e None (Some d) s
-          ∙ ap (λ m. result_ok (apply_content m (Some d))) op.1
-          ∙ ap result_ok (apply_edit op.0 d r.result r.applied);
-    }
+    record { at = applied_entry log v e later d op.0 r.result s is op.1 r.applied; formed = rest.formed; made = here }
 
 -- ---- what a decision has stored
 

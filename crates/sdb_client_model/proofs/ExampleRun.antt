@@ -15,8 +15,10 @@ use Rattle.sdb_oplog.specs.Snap.{document_of}
 use Rattle.sdb_oplog.specs.Decide.{missed_entries, is_log_full}
 use Rattle.sdb_oplog.specs.RebasedContents.{base_document, PositionLeavesRangeAmong}
 use Rattle.sdb_client_model.specs.Client.{SentEdit, Client, shown_document, after_edit}
-use Rattle.sdb_client_model.specs.Machine.{SubmittedEdit, SharedDocument, ClientStep, make_edit, send_edit, decide_edit, process_entry, with_changed_client, submission_of, after_sending, after_decision, CrossesInRange, PendingCrossesInRange, IsRebasedInRange, IsClientStep, IsStepInRange, IsClientRun}
-use Rattle.sdb_client_model.specs.Convergence.{IsStart, IsReached}
+use Rattle.sdb_client_model.specs.Machine.{SubmittedEdit, SharedDocument, ClientStep, make_edit, send_edit, decide_edit, process_entry, with_changed_client, submission_of, after_sending, after_decision, IsClientStep, IsClientRun}
+use Rattle.sdb_client_model.specs.Convergence.{IsStart}
+use Rattle.sdb_client_model.specs.InRange.{CrossesInRange, PendingCrossesInRange, IsRebasedInRange, AreStepsInRange, IsStepInRange}
+use Rattle.sdb_client_model.specs.MadeEdits.{IsReachedInRange}
 
 -- ---- the start: a list without items
 
@@ -38,7 +40,6 @@ start = record {
 row_start : IsStart start
 row_start = record {
   log_is_made = (refl, tt);
-  entries_made = (tt, tt);
   clients = λ source. record { version = refl; document = refl; pending = refl; sent = refl; seqs = ((λ is. omega arith), tt) };
   submitted = refl;
 }
@@ -423,15 +424,24 @@ data Run : List ClientStep → SharedDocument → SharedDocument → Type 0 wher
 
 run_of : (rest : List ClientStep) (old new : SharedDocument) → Run rest old new → IsClientRun rest old new
 run_of _ _ _ (end s) = refl
-run_of _ _ _ (then {rest} {old} {mid} {new} step run) = (step.range, mid, step.step, run_of rest mid new run)
+run_of _ _ _ (then {rest} {old} {mid} {new} step run) = (mid, step.step, run_of rest mid new run)
+
+range_of : (rest : List ClientStep) (old new : SharedDocument) (run : Run rest old new) → AreStepsInRange rest old new (run_of rest old new run)
+unfolding run_of
+range_of _ _ _ (end s) = tt
+range_of _ _ _ (then {rest} {old} {mid} {new} step run) = (step.range, range_of rest mid new run)
 
 row_steps : Run steps start s16
 row_steps =
     then step1 (then step2 (then step3 (then step4 (then step5 (then step6 (then step7 (then step8
     (then step9 (then step10 (then step11 (then step12 (then step13 (then step14 (then step15 (then step16 (end s16))))))))))))))))
 
-pub row_run : IsReached steps start s16
-row_run = record { starts = row_start; run = run_of steps start s16 row_steps }
+pub row_run : IsReachedInRange steps start s16
+row_run = record {
+  reached = record { starts = row_start; run = run_of steps start s16 row_steps };
+  entries_made = (tt, tt);
+  steps_in_range = range_of steps start s16 row_steps;
+}
 
 -- before b processes a's edit, and at the end
 pub row_shown_before : shown_document (s9.clients b) ≡ Some (list (item (truth false) (item null no_items)))

@@ -3,6 +3,8 @@ mod EntryLemmas
 mod AppendLemmas
 mod ClientSteps
 mod DecisionLemmas
+mod MadeEdits
 mod ClientRuns
 mod StoredOnceLemmas
 mod ExampleRun
+mod ExampleUnmadeRun

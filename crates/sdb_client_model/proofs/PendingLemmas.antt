@@ -1,5 +1,5 @@
 -- Pending operations that are made for a document in sequence.
-use Rattle.std.proofs.Common.{◌≡◌, ◌+◌, List, [], ◌∷◌, ◌++◌, Option, Some, None, option_and_then, inl, inr, refl, sym, ap, ◌∙◌, subst}
+use Rattle.std.proofs.Common.{◌≡◌, ◌+◌, List, [], ◌∷◌, ◌++◌, Option, Some, None, option_map, option_and_then, inl, inr, refl, sym, ap, ◌∙◌, subst}
 use Rattle.sdb_value.specs.Value.{Value}
 use Rattle.sdb_component.specs.Plain.{PlainComponent}
 use Rattle.sdb_component.specs.Weight.{component_weight}
@@ -10,8 +10,9 @@ use Rattle.sdb_transform.proofs.FormedValues.{IsFormed}
 use Rattle.sdb_transform.proofs.OperationRuns.{OperationRun, MadeResult, MadeOrOverflows, run_of, run_formed, made_or_overflows}
 use Rattle.sdb_transform.proofs.CrossingExistence.{crossing_of_runs}
 use Rattle.sdb_transform.proofs.OperationLemmas.{cross_runs}
-use Rattle.sdb_client_model.specs.Client.{apply_all, ArePendingMade, PendingCrossing, cross_pending}
-use Rattle.sdb_client_model.specs.Machine.{IsMadeForShown, CrossesInRange, PendingCrossesInRange}
+use Rattle.sdb_client_model.specs.Client.{apply_all, PendingCrossing, cross_pending}
+use Rattle.sdb_client_model.specs.InRange.{IsMadeForShown, CrossesInRange, PendingCrossesInRange}
+use Rattle.sdb_client_model.specs.MadeEdits.{ArePendingMade}
 
 pub same_some : {A : Type 0} (x y : A) → Some x ≡ Some y → x ≡ y
 same_some x y e = cc
@@ -94,6 +95,10 @@ pending_crossed (op ∷ ops) received d f w h b k r =
 pub some_step : {A B : Type 0} (o : Option A) (f : A → Option B) (b : B) → and_then o f ≡ Some b → (a : A) × (o ≡ Some a) × (f a ≡ Some b)
 some_step None f b e = cc
 some_step (Some a) f b e = (a, refl, e)
+
+pub map_step : {A B : Type 0} (o : Option A) (f : A → B) (b : B) → option_map f o ≡ Some b → (a : A) × (o ≡ Some a) × (f a ≡ b)
+map_step None f b e = cc
+map_step (Some a) f b e = (a, refl, same_some (f a) b e)
 
 -- the first pending operation is transformed against the received one
 pub record FirstCrossed (op received : List PlainComponent) (pending : List (List PlainComponent)) : Type 0 where

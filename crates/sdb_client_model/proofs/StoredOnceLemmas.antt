@@ -1,5 +1,5 @@
 -- Where the edits of a client are, after each step and each run.
-use Rattle.std.proofs.Common.{◌≡◌, ℕ, zero, suc, ◌+◌, List, [], ◌∷◌, ◌++◌, drop, length, Bool, true, false, cond, Option, Some, None, Result, Ok, Err, option_map, ◌⊎◌, inl, inr, refl, sym, ap, ◌∙◌, subst, arith, append_assoc, append-nil, length-append}
+use Rattle.std.proofs.Common.{◌≡◌, ℕ, zero, suc, ◌+◌, List, [], ◌∷◌, ◌++◌, drop, length, Bool, true, false, cond, Option, Some, None, Result, Ok, Err, ◌⊎◌, inl, inr, refl, sym, ap, ◌∙◌, subst, arith, append_assoc, append-nil, length-append}
 use Rattle.std.proofs.lemmas.Bool.{cases_Bool, and_from, eq-eqb}
 use Rattle.std.proofs.lemmas.List.{drop_at}
 use Rattle.std.specs.Prelude.{bytes_eq, nat_eq, Contains}
@@ -10,7 +10,6 @@ use Rattle.sdb_transform.specs.Cross.{and_then, cross_ops}
 use Rattle.sdb_oplog.specs.Plain.{PlainContent, create, delete, edit, PlainSubmission, PlainEntry}
 use Rattle.sdb_oplog.specs.Snap.{stored_at, has_identifier, are_identifiers_new}
 use Rattle.sdb_oplog.specs.Decide.{decide, rebased_content, new_entry, IsMadeFrom}
-use Rattle.sdb_oplog.specs.RebasedContents.{StoredEntriesAreMade, RefusalsHaveCausesIfAllMade}
 use Rattle.sdb_oplog.specs.laws.LogLaws.{append_nil, append_changes, decides_repeat, decides_settled}
 use Rattle.sdb_oplog.proofs.LogGrowth.{none_more}
 use Rattle.sdb_oplog.specs.declared.codes.Code.{Code}
@@ -18,7 +17,7 @@ use Rattle.sdb_client_model.specs.Client.{SentEdit, Client, PendingCrossing, cro
 use Rattle.sdb_client_model.specs.Machine.{SubmittedEdit, SharedDocument, ClientStep, make_edit, send_edit, decide_edit, process_entry, with_client, with_changed_client, after_sending, submission_of, after_decision, IsClientStep, IsClientRun}
 use Rattle.sdb_client_model.specs.Invariant.{IsSentOrNone, IsConsistent}
 use Rattle.sdb_client_model.specs.StoredOnce.{seqs_of, unstored_seqs, consecutive_seqs, count_edits, AllEditsAreStored, NoneStoredTwice}
-use Rattle.sdb_client_model.proofs.PendingLemmas.{same_some, some_step}
+use Rattle.sdb_client_model.proofs.PendingLemmas.{same_some, some_step, map_step}
 use Rattle.sdb_client_model.proofs.AppendLemmas.{same_source, other_source, identifier_parts, not_stored_of_seqs, stored_append, stored_of_entry}
 use Rattle.sdb_client_model.proofs.ClientRuns.{consistent_start, consistent_step, runs_are_consistent}
 
@@ -344,15 +343,11 @@ record Acknowledges (old c : Client) (rest : List (List PlainComponent)) : Type 
   pub next : c.next_seq ≡ old.next_seq
   pub pending : c.pending ≡ rest
 
-map_step : {A B : Type 0} (o : Option A) (f : A → B) (b : B) → option_map f o ≡ Some b → (a : A) × (f a ≡ b)
-map_step None f b e = cc
-map_step (Some a) f b e = (a, same_some (f a) b e)
-
 acknowledges : (old c : Client) (ops : List (List PlainComponent)) → after_acknowledgement old ops ≡ Some c → (op : List PlainComponent) × (rest : List (List PlainComponent)) × (ops ≡ op ∷ rest) × Acknowledges old c rest
 acknowledges old c [] h = cc
 acknowledges old c (op ∷ ops) h =
     let d = map_step (apply op old.document) (λ d. record { version = old.version + 1; document = d; pending = ops; sent = None; next_seq = old.next_seq }) c h in
-    let is = d.1 in
+    let is = d.2 in
     (op, ops, refl, record { sent = ap (λ (k : Client). k.sent) (sym is); next = ap (λ (k : Client). k.next_seq) (sym is); pending = ap (λ (k : Client). k.pending) (sym is) })
 
 module _ (source : List ℕ) (old : SharedDocument) (e : PlainEntry) (later : List PlainEntry) (is : drop (old.clients source).version old.log ≡ e ∷ later) (c : Client) where
@@ -417,39 +412,38 @@ moved_none source old = record {
   edits = omega arith;
 }
 
-module _ (stored_made : StoredEntriesAreMade) (refusals : RefusalsHaveCausesIfAllMade) where
-  moved_run : (source : List ℕ) (steps : List ClientStep) (old new : SharedDocument) → IsConsistent old → IsClientRun steps old new → EditsAreMoved source steps old new
-  moved_run source [] old new h run = subst (EditsAreMoved source [] old) (sym run) (moved_none source old)
-  moved_run source (step ∷ steps) old new h run =
-      moved_then source step steps old run.1 new (moved_step source step old run.1 h run.2)
-      (moved_run source steps run.1 new (consistent_step stored_made refusals step old run.1 h run.0 run.2) run.3)
+moved_run : (source : List ℕ) (steps : List ClientStep) (old new : SharedDocument) → IsConsistent old → IsClientRun steps old new → EditsAreMoved source steps old new
+moved_run source [] old new h run = subst (EditsAreMoved source [] old) (sym run) (moved_none source old)
+moved_run source (step ∷ steps) old new h run =
+    moved_then source step steps old run.0 new (moved_step source step old run.0 h run.1)
+    (moved_run source steps run.0 new (consistent_step step old run.0 h run.1) run.2)
 
-  pub all_edits_are_stored : AllEditsAreStored
-  all_edits_are_stored steps start s source r =
-      let m = moved_run source steps start s (consistent_start start r.starts) r.run in
-      let n = r.starts.clients source in
-      let edits = m.edits in
-      let none_queued : length (queued_edits (start.clients source)) ≡ 0 =
-      ap (λ o. length (queue_after o (start.clients source).pending)) n.sent ∙ ap length n.pending in
-      record {
-        entries = m.entries;
-        log = m.log;
-        sent = m.sent;
-        seqs = m.seqs ∙ ap (λ o. unstored_seqs start.log source o ++ consecutive_seqs (start.clients source).next_seq m.sent) n.sent;
-        edits = omega arith;
-      }
+pub all_edits_are_stored : AllEditsAreStored
+all_edits_are_stored steps start s source r =
+    let m = moved_run source steps start s (consistent_start start r.starts) r.run in
+    let n = r.starts.clients source in
+    let edits = m.edits in
+    let none_queued : length (queued_edits (start.clients source)) ≡ 0 =
+    ap (λ o. length (queue_after o (start.clients source).pending)) n.sent ∙ ap length n.pending in
+    record {
+      entries = m.entries;
+      log = m.log;
+      sent = m.sent;
+      seqs = m.seqs ∙ ap (λ o. unstored_seqs start.log source o ++ consecutive_seqs (start.clients source).next_seq m.sent) n.sent;
+      edits = omega arith;
+    }
 
-  -- ---- no entry is stored twice
+-- ---- no entry is stored twice
 
-  new_identifier : (log : List PlainEntry) (e : PlainEntry) (o : Option ℕ) → stored_at e.arrived.src e.arrived.seq log ≡ o → (decide log e.arrived e.moment).log ≡ log ++ e ∷ [] → is_none (stored_at e.arrived.src e.arrived.seq log) ≡ true
-  new_identifier log e None is h = ap is_none is
-  new_identifier log e (Some i) is h = absurd (append_changes log e (sym (ap (λ d. d.log) (decides_repeat log e.arrived e.moment i is)) ∙ h))
+new_identifier : (log : List PlainEntry) (e : PlainEntry) (o : Option ℕ) → stored_at e.arrived.src e.arrived.seq log ≡ o → (decide log e.arrived e.moment).log ≡ log ++ e ∷ [] → is_none (stored_at e.arrived.src e.arrived.seq log) ≡ true
+new_identifier log e None is h = ap is_none is
+new_identifier log e (Some i) is h = absurd (append_changes log e (sym (ap (λ d. d.log) (decides_repeat log e.arrived e.moment i is)) ∙ h))
 
-  identifiers_new : (before es : List PlainEntry) → IsMadeFrom before es → are_identifiers_new before es ≡ true
-  identifiers_new before [] h = refl
-  identifiers_new before (e ∷ es) h =
-      and_from (is_none (stored_at e.arrived.src e.arrived.seq before)) (are_identifiers_new (before ++ e ∷ []) es)
-      (new_identifier before e (stored_at e.arrived.src e.arrived.seq before) refl h.0) (identifiers_new (before ++ e ∷ []) es h.1)
+identifiers_new : (before es : List PlainEntry) → IsMadeFrom before es → are_identifiers_new before es ≡ true
+identifiers_new before [] h = refl
+identifiers_new before (e ∷ es) h =
+    and_from (is_none (stored_at e.arrived.src e.arrived.seq before)) (are_identifiers_new (before ++ e ∷ []) es)
+    (new_identifier before e (stored_at e.arrived.src e.arrived.seq before) refl h.0) (identifiers_new (before ++ e ∷ []) es h.1)
 
-  pub none_stored_twice : NoneStoredTwice
-  none_stored_twice steps start s r = identifiers_new [] s.log (runs_are_consistent stored_made refusals steps start s r).log_is_made
+pub none_stored_twice : NoneStoredTwice
+none_stored_twice steps start s r = identifiers_new [] s.log (runs_are_consistent steps start s r).log_is_made

@@ -1,12 +1,11 @@
 -- A client of one document that shows its edits at once, as in `docs/CLIENT_ALGORITHM.md`. As a client of Jupiter or
 -- ShareDB it has at most one edit that is sent and not acknowledged. It transforms its pending edits against each edit
 -- of another client that it processes, as the left operations.
-use Rattle.std.specs.Prelude.{◌≡◌, ℕ, ◌+◌, List, [], ◌∷◌, ◌++◌, Bool, false, if◌then◌else◌, Option, Some, None, option_map, option_and_then, ⊤}
+use Rattle.std.specs.Prelude.{ℕ, ◌+◌, List, [], ◌∷◌, ◌++◌, Bool, false, if◌then◌else◌, Option, Some, None, option_map, option_and_then}
 use Rattle.sdb_value.specs.Value.{Value}
 use Rattle.sdb_component.specs.Plain.{PlainComponent}
 use Rattle.sdb_apply.specs.Apply.{apply}
 use Rattle.sdb_transform.specs.Cross.{and_then, cross_ops}
-use Rattle.sdb_transform.specs.OperationConvergence.{AreMadeFor}
 use Rattle.sdb_oplog.specs.Plain.{PlainContent, create, delete, edit, PlainEntry}
 use Rattle.sdb_oplog.specs.Snap.{has_identifier}
 
@@ -43,11 +42,6 @@ queue_after (Some t) (op ∷ ops) = ops
 
 abbrev pub queued_edits : Client → List (List PlainComponent)
 queued_edits c = queue_after c.sent c.pending
-
--- each operation is made for the result of those before it
-abbrev pub ArePendingMade : List (List PlainComponent) → Value → Type 0
-ArePendingMade [] d = ⊤
-ArePendingMade (op ∷ ops) d = AreMadeFor op d × (e : Value) × (apply op d ≡ Some e) × ArePendingMade ops e
 
 -- ---- an own edit
 

@@ -4,10 +4,9 @@ use Rattle.std.specs.Option.{is_some}
 use Rattle.sdb_component.specs.Plain.{PlainComponent}
 use Rattle.sdb_oplog.specs.Plain.{PlainContent, create, delete, edit, PlainEntry}
 use Rattle.sdb_oplog.specs.Rebase.{rebase}
-use Rattle.sdb_oplog.specs.Snap.{snap, document_of, stored_at}
+use Rattle.sdb_oplog.specs.Snap.{snap, stored_at}
 use Rattle.sdb_oplog.specs.Decide.{IsMade}
-use Rattle.sdb_oplog.specs.RebasedContents.{IsContentMadeFor, AreMadeAtBase}
-use Rattle.sdb_client_model.specs.Client.{SentEdit, Client, ArePendingMade}
+use Rattle.sdb_client_model.specs.Client.{SentEdit, Client}
 use Rattle.sdb_client_model.specs.Machine.{SubmittedEdit, SharedDocument}
 
 -- ---- entries
@@ -47,8 +46,6 @@ pub record IsSentEditOf (log : List PlainEntry) (source : List ℕ) (c : Client)
   -- what is pending is what was sent, rebased on the entries from its base version to the client's version
   pub base_reached : t.base ≤ c.version
   pub rebased : rebase (edit t.operation) (drop t.base (take c.version log)) ≡ Ok (edit operation)
-  -- what was sent is made for the document at its base version
-  pub made : IsContentMadeFor (edit t.operation) (document_of (take t.base log))
   pub edits : AreEdits (drop t.base log)
   -- its entry is stored at the client's version or after it, or not yet
   pub not_processed : stored_at source t.seq (take c.version log) ≡ None
@@ -65,8 +62,6 @@ pub record FollowsLog (log : List PlainEntry) (source : List ℕ) (c : Client) :
   -- its document is the log's document at its version
   pub document : snap (take c.version log) ≡ Some (Some c.document)
   pub edits : AreEdits (drop c.version log)
-  -- what is pending is made for its document, so it shows a document
-  pub pending : ArePendingMade c.pending c.document
   pub sent : IsSentOrNone log source c c.sent
   pub seqs : AreSeqsBelow c.next_seq source log
 
@@ -80,7 +75,6 @@ pub record IsStoredOrSent (log : List PlainEntry) (c : Client) (m : SubmittedEdi
 
 pub record IsConsistent (s : SharedDocument) : Type 0 where
   pub log_is_made : IsMade s.log
-  pub entries_made : AreMadeAtBase s.log
   pub clients : (source : List ℕ) → FollowsLog s.log source (s.clients source)
   pub submitted : (m : SubmittedEdit) → Contains s.submitted m → IsStoredOrSent s.log (s.clients m.source) m
   -- a client's sent edit is in the network

@@ -6,17 +6,11 @@
 -- its version on, and for acknowledgements and operations that arrive before the client's version reaches them. The
 -- client keeps those, and `process_entry` is the moment when it processes one. A client that starts later has made no
 -- edit yet.
-use Rattle.std.specs.Prelude.{◌≡◌, ℕ, List, [], ◌∷◌, ◌++◌, drop, cond, false, Option, Some, None, bytes_eq, Contains, ⊤}
-use Rattle.sdb_value.specs.Value.{Value}
+use Rattle.std.specs.Prelude.{◌≡◌, ℕ, List, [], ◌∷◌, ◌++◌, drop, cond, Some, None, bytes_eq, Contains}
 use Rattle.sdb_component.specs.Plain.{PlainComponent}
-use Rattle.sdb_apply.specs.Apply.{apply}
-use Rattle.sdb_transform.specs.Cross.{Crossing, cross_ops}
-use Rattle.sdb_transform.specs.OperationConvergence.{AreMadeFor, SomeSumLeavesRange, AllStayInRange}
 use Rattle.sdb_oplog.specs.Plain.{edit, PlainSubmission, PlainEntry}
-use Rattle.sdb_oplog.specs.Snap.{stored_at}
-use Rattle.sdb_oplog.specs.Decide.{decide, missed_entries, is_log_full}
-use Rattle.sdb_oplog.specs.RebasedContents.{base_document, RebasedSumLeavesRange, PositionLeavesRangeAmong}
-use Rattle.sdb_client_model.specs.Client.{SentEdit, Client, shown_document, after_edit, next_sent, after_send, is_sent_edit, after_entry}
+use Rattle.sdb_oplog.specs.Decide.{decide}
+use Rattle.sdb_client_model.specs.Client.{SentEdit, Client, after_edit, next_sent, after_send, after_entry}
 
 -- an edit that the client of a source has sent
 pub record SubmittedEdit : Type 0 where
@@ -98,56 +92,7 @@ IsClientStep (decide_edit m via by now) old new =
     Contains old.submitted m × (new ≡ after_decision old (submission_of m via by) now)
 IsClientStep (process_entry source) old new = ProcessesEntry source old new
 
--- ---- premises of a run
-
--- the edit is made for what the client shows
-abbrev pub IsMadeForShown : List PlainComponent → Option Value → Type 0
-IsMadeForShown op None = ⊥
-IsMadeForShown op (Some d) = AreMadeFor op d
-
--- while the operations, made for d, are transformed against each other, no position leaves the range, which is the one
--- cause for which they can't be transformed (`crossing_exists`), and no sum of the results does
-pub record CrossesInRange (op received : List PlainComponent) (d : Value) : Type 0 where
-  pub positions :
-      cross_ops op received ≡ None → (AllStayInRange op received → AllStayInRange received op → ⊥) → ⊥
-  pub left_sums :
-      (x : Crossing PlainComponent) (e : Value) → cross_ops op received ≡ Some x → apply received d ≡ Some e
-      → SomeSumLeavesRange x.left e → ⊥
-  pub right_sums :
-      (x : Crossing PlainComponent) (e : Value) → cross_ops op received ≡ Some x → apply op d ≡ Some e
-      → SomeSumLeavesRange x.right e → ⊥
-
--- the same for each of the pending operations, and the received one transformed against those before it
-abbrev pub PendingCrossesInRange : List (List PlainComponent) → List PlainComponent → Value → Type 0
-PendingCrossesInRange [] received d = ⊤
-PendingCrossesInRange (op ∷ ops) received d =
-    CrossesInRange op received d
-    × ((x : Crossing PlainComponent) (e : Value) → cross_ops op received ≡ Some x → apply op d ≡ Some e
-    → PendingCrossesInRange ops x.right e)
-
--- the log isn't full, and no position and no sum leaves the range while the submission is rebased
-pub record IsRebasedInRange (log : List PlainEntry) (submission : PlainSubmission) : Type 0 where
-  pub room : is_log_full log ≡ false
-  pub positions :
-      PositionLeavesRangeAmong submission.content (base_document log submission) (missed_entries log submission) → ⊥
-  pub sums : RebasedSumLeavesRange submission.content (base_document log submission) (missed_entries log submission) → ⊥
-
--- the entry at the client's version, if it isn't the sent edit
-abbrev pub ProcessesInRange : List ℕ → Client → List PlainEntry → Type 0
-ProcessesInRange source c [] = ⊤
-ProcessesInRange source c (e ∷ later) =
-    (op : List PlainComponent) → is_sent_edit source c.sent e ≡ false → e.content ≡ edit op
-    → PendingCrossesInRange c.pending op c.document
-
-abbrev pub IsStepInRange : ClientStep → SharedDocument → Type 0
-IsStepInRange (make_edit source op) s = IsMadeForShown op (shown_document (s.clients source))
-IsStepInRange (send_edit source) s = ⊤
-IsStepInRange (decide_edit m via by now) s =
-    stored_at m.source m.sent.seq s.log ≡ None → IsRebasedInRange s.log (submission_of m via by)
-IsStepInRange (process_entry source) s =
-    ProcessesInRange source (s.clients source) (drop (s.clients source).version s.log)
-
+-- the steps lead from old to new
 abbrev pub IsClientRun : List ClientStep → SharedDocument → SharedDocument → Type 0
 IsClientRun [] old new = new ≡ old
-IsClientRun (step ∷ steps) old new =
-    IsStepInRange step old × (mid : SharedDocument) × IsClientStep step old mid × IsClientRun steps mid new
+IsClientRun (step ∷ steps) old new = (mid : SharedDocument) × IsClientStep step old mid × IsClientRun steps mid new

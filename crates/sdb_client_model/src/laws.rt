@@ -1,5 +1,6 @@
 //! Laws of clients that share one document, as contracts of functions without effect.
-ghost use Rattle.sdb_client_model.specs.Convergence.{RunsAreConsistent, ClientsConverge, ClientsAgree, ClientsShowDocuments, NoneIsStuck, NoneRefused, EntriesAreProcessed};
+ghost use Rattle.sdb_client_model.specs.Convergence.{RunsAreConsistent, ClientsConverge, ClientsAgree};
+ghost use Rattle.sdb_client_model.specs.MadeEdits.{EditsStayMade, ClientsShowDocuments, NoneIsStuck, NoneRefused, EntriesAreProcessed};
 ghost use Rattle.sdb_client_model.specs.StoredOnce.{AllEditsAreStored, NoneStoredTwice};
 
 use sdb_oplog::laws::{refusals_have_causes, stored_entries_are_made};
@@ -8,12 +9,20 @@ use sdb_oplog::laws::{refusals_have_causes, stored_entries_are_made};
 /// entries and has no pending edit shows the server's document. Two clients without a pending edit
 /// show the same document, if they have processed equally many entries.
 ///
-/// Before that, a client shows the document at its version with its own edits, rebased: `invariant`.
+/// Before that, a client's document is the log's document at its version: `invariant`. No edit has
+/// to be made for what its client shows, and no sum or position has to stay in range. A refused edit
+/// isn't stored, and an entry that a client can't process stays the next one for it.
 pub fn clients_converge()
     ensures converge { ClientsConverge }
     ensures agree { ClientsAgree }
-    ensures shown { ClientsShowDocuments }
     ensures invariant { RunsAreConsistent }
+{}
+
+/// States that the edits of clients stay made while they are transformed, if each is made for what
+/// its client shows, and no sum and no position leaves the range. So each client shows a document.
+pub fn edits_stay_made()
+    ensures made { EditsStayMade }
+    ensures shown { ClientsShowDocuments }
 {
     stored_entries_are_made();
     refusals_have_causes();
@@ -43,7 +52,4 @@ pub fn entries_are_processed()
 pub fn edits_are_stored_once()
     ensures edits { AllEditsAreStored }
     ensures entries { NoneStoredTwice }
-{
-    stored_entries_are_made();
-    refusals_have_causes();
-}
+{}
