@@ -1,5 +1,5 @@
 -- A log with one more entry.
-use Rattle.std.proofs.Common.{◌≡◌, ℕ, zero, suc, ◌+◌, ◌<◌, List, [], ◌∷◌, ◌++◌, take, drop, Bool, true, false, cond, Option, Some, None, option_map, inl, inr, refl, sym, ap, ◌∙◌, subst, arith, append_assoc, length-append}
+use Rattle.std.proofs.Common.{◌≡◌, ℕ, zero, suc, ◌+◌, ◌<◌, List, [], ◌∷◌, ◌++◌, take, drop, Bool, true, false, cond, Option, Some, None, option_map, inl, inr, refl, sym, ap, ◌∙◌, subst, arith, length-append}
 use Rattle.std.proofs.lemmas.List.{take-append-le, drop-append-le}
 use Rattle.std.proofs.lemmas.Bool.{cases_Bool, and_parts, eqb-true}
 use Rattle.std.proofs.lemmas.Slice.Eq.{bytes_eq-Decides}
@@ -8,8 +8,6 @@ use Rattle.std.specs.Option.{is_some}
 use Rattle.sdb_oplog.specs.Plain.{edit, PlainEntry}
 use Rattle.sdb_oplog.specs.Rebase.{rebase}
 use Rattle.sdb_oplog.specs.Snap.{snap, stored_at, has_identifier}
-use Rattle.sdb_oplog.specs.RebasedContents.{IsMadeAtBase, AreMadeAtBaseFrom}
-use Rattle.sdb_oplog.specs.laws.LogLaws.{append_nil}
 use Rattle.sdb_client_model.specs.Client.{SentEdit, Client}
 use Rattle.sdb_client_model.specs.Invariant.{IsEdit, AreEdits, AreSeqsBelow, StoresSentEdit, AreEntriesOfSentEdit, IsSentEditOf, IsSentOrNone, FollowsLog}
 
@@ -103,11 +101,6 @@ entry_of [] (suc v) e later s t is h = cc
 entry_of (x ∷ log) zero e later s t is h =
     let same : x ≡ e = cc in subst (λ (y : PlainEntry). y.arrived.src ≡ s → y.arrived.seq ≡ t.seq → StoresSentEdit t y) same h.0
 entry_of (x ∷ log) (suc v) e later s t is h = entry_of log v e later s t is h.1
-
-pub made_at_base_append : (before es : List PlainEntry) (e : PlainEntry) → AreMadeAtBaseFrom before es → IsMadeAtBase (before ++ es) e.arrived → AreMadeAtBaseFrom before (es ++ e ∷ [])
-made_at_base_append before [] e h k = (subst (λ l. IsMadeAtBase l e.arrived) (append_nil before) k, tt)
-made_at_base_append before (x ∷ es) e h k =
-    (h.0, made_at_base_append (before ++ x ∷ []) es e h.1 (subst (λ l. IsMadeAtBase l e.arrived) (sym (append_assoc before (x ∷ []) es)) k))
 
 -- ---- a client of a log
 

@@ -6,19 +6,22 @@ use Rattle.sdb_component.specs.Plain.{PlainComponent}
 use Rattle.sdb_oplog.specs.Plain.{PlainEntry}
 use Rattle.sdb_oplog.specs.Snap.{snap, document_of, stored_at}
 use Rattle.sdb_oplog.specs.Decide.{IsMade}
-use Rattle.sdb_oplog.specs.RebasedContents.{AreMadeAtBase, StoredEntriesAreMade, RefusalsHaveCausesIfAllMade}
-use Rattle.sdb_oplog.specs.laws.LogLaws.{some_of_is_some}
+use Rattle.sdb_oplog.specs.RebasedContents.{IsWellFormedDocument}
+use Rattle.sdb_value.specs.Value.{Value}
+use Rattle.sdb_transform.proofs.FormedValues.{formed_of}
+use Rattle.sdb_client_model.proofs.EntryLemmas.{IsFormedDocument}
+use Rattle.sdb_oplog.specs.laws.LogLaws.{append_nil, some_of_is_some}
 use Rattle.sdb_oplog.specs.laws.DecidedLogLaws.{alive_of_made}
 use Rattle.sdb_client_model.specs.Client.{SentEdit, Client, shown_document, apply_all}
 use Rattle.sdb_client_model.specs.Machine.{SubmittedEdit, SharedDocument, ClientStep, make_edit, send_edit, decide_edit, process_entry, IsClientStep, IsClientRun}
 use Rattle.sdb_client_model.specs.Invariant.{AreEdits, IsSentEditOf, IsSentOrNone, FollowsLog, IsStoredOrSent, IsConsistent}
 use Rattle.sdb_client_model.specs.Convergence.{IsNewClient, IsStart, RunsAreConsistent, ClientsConverge, ClientsAgree, IsQuiet}
 use Rattle.sdb_client_model.specs.InRange.{AreStepsInRange, IsStepInRange}
-use Rattle.sdb_client_model.specs.MadeEdits.{ArePendingMade, IsSentMade, AreOwnEditsMade, AreEditsMade, EditsStayMade, ClientsShowDocuments, AwaitsStep, NoneIsStuck, NoneRefused, EntriesAreProcessed, awaits_entry, awaits_send, awaits_decision}
+use Rattle.sdb_client_model.specs.MadeEdits.{ArePendingMade, IsSentMade, AreOwnEditsMade, AreEditsMade, EditsStayMade, ClientsShowDocuments, AwaitsStep, NoneIsStuck, NoneRefused, EntriesAreProcessed, awaits_entry, awaits_send, awaits_decision, IsReachedInRange}
 use Rattle.sdb_client_model.proofs.ClientSteps.{consistent_edit, consistent_send, consistent_entry}
 use Rattle.sdb_client_model.proofs.PendingLemmas.{shown_of_made}
 use Rattle.sdb_client_model.proofs.DecisionLemmas.{consistent_decision}
-use Rattle.sdb_client_model.proofs.MadeEdits.{made_edit, made_send, made_processed, entry_is_processed, made_decision, not_refused}
+use Rattle.sdb_client_model.proofs.MadeEdits.{StartsFormed, made_edit, made_send, made_processed, entry_is_processed, made_decision, not_refused}
 
 -- ---- the start
 
@@ -115,49 +118,66 @@ module _ (s : SharedDocument) (source : List ℕ) (h : IsConsistent s) where
 
 -- ---- runs of made edits, in range
 
-own_edits_of_new : (log : List PlainEntry) (source : List ℕ) (c : Client) → IsNewClient log source c → AreOwnEditsMade log c
-own_edits_of_new log source c n = record {
-  pending = subst (λ ops. ArePendingMade ops c.document) (sym n.pending) tt;
-  sent = subst (IsSentMade log) (sym n.sent) tt;
+own_edits_of_new : (log : List PlainEntry) (source : List ℕ) (c : Client) → IsNewClient log source c → AreOwnEditsMade (length log) log c
+own_edits_of_new log source c n =
+    let length_is = n.version in
+    record {
+      version_reached = omega arith;
+      pending = subst (λ ops. ArePendingMade ops c.document) (sym n.pending) tt;
+      sent = subst (IsSentMade (length log) log) (sym n.sent) tt;
+    }
+
+made_start : (s : SharedDocument) → IsStart s → AreEditsMade s s
+made_start s h = record {
+  entries = [];
+  log = sym (append_nil s.log);
+  made = tt;
+  clients = λ source. own_edits_of_new s.log source (s.clients source) (h.clients source);
 }
 
-made_start : (s : SharedDocument) → IsStart s → AreMadeAtBase s.log → AreEditsMade s
-made_start s h made = record { entries = made; clients = λ source. own_edits_of_new s.log source (s.clients source) (h.clients source) }
+formed_document : (d : Option Value) → IsWellFormedDocument d → IsFormedDocument d
+formed_document None h = tt
+formed_document (Some d) h = formed_of d h
 
-module _ (stored_made : StoredEntriesAreMade) (refusals : RefusalsHaveCausesIfAllMade) where
-  made_step : (step : ClientStep) (old new : SharedDocument) → IsConsistent old → AreEditsMade old → IsStepInRange step old → IsClientStep step old new → AreEditsMade new
-  made_step (make_edit source op) old new h a range step = subst AreEditsMade (sym step) (made_edit old h a source op range)
-  made_step (send_edit source) old new h a range step = subst AreEditsMade (sym step.new_is) (made_send old h a source step.operation step.rest step.first)
-  made_step (decide_edit m via by now) old new h a range step = subst AreEditsMade (sym step.1) (made_decision refusals old h a m step.0 via by now range)
+starts_formed : (s : SharedDocument) → IsStart s → IsWellFormedDocument (document_of s.log) → StartsFormed s
+starts_formed s h f = record { snapped = some_of_is_some (snap s.log) (alive_of_made s.log h.log_is_made); formed = formed_document (document_of s.log) f }
+
+module _ (start : SharedDocument) (from : StartsFormed start) where
+  made_step : (step : ClientStep) (old new : SharedDocument) → IsConsistent old → AreEditsMade start old → IsStepInRange step old → IsClientStep step old new → AreEditsMade start new
+  made_step (make_edit source op) old new h a range step = subst (AreEditsMade start) (sym step) (made_edit start old from h a source op range)
+  made_step (send_edit source) old new h a range step = subst (AreEditsMade start) (sym step.new_is) (made_send start old from h a source step.operation step.rest step.first)
+  made_step (decide_edit m via by now) old new h a range step = subst (AreEditsMade start) (sym step.1) (made_decision start old from h a m step.0 via by now range)
   made_step (process_entry source) old new h a range step =
-      subst AreEditsMade (sym step.new_is)
-      (made_processed old h a source step.entry step.later (stored_made old.log h.log_is_made a.entries) step.entry_is range step.client step.client_is)
+      subst (AreEditsMade start) (sym step.new_is) (made_processed start old from h a source step.entry step.later step.entry_is range step.client step.client_is)
 
-  made_run : (steps : List ClientStep) (old new : SharedDocument) → IsConsistent old → AreEditsMade old → (run : IsClientRun steps old new) → AreStepsInRange steps old new run → AreEditsMade new
-  made_run [] old new h a run range = subst AreEditsMade (sym run) a
+  made_run : (steps : List ClientStep) (old new : SharedDocument) → IsConsistent old → AreEditsMade start old → (run : IsClientRun steps old new) → AreStepsInRange steps old new run → AreEditsMade start new
+  made_run [] old new h a run range = subst (AreEditsMade start) (sym run) a
   made_run (step ∷ steps) old new h a run range =
       made_run steps run.0 new (consistent_step step old run.0 h run.1) (made_step step old run.0 h a range.0 run.1) run.2 range.1
 
-  pub edits_stay_made : EditsStayMade
-  edits_stay_made steps start s r =
-      made_run steps start s (consistent_start start r.reached.starts) (made_start start r.reached.starts r.entries_made) r.reached.run r.steps_in_range
+from_start : (steps : List ClientStep) (start s : SharedDocument) → IsReachedInRange steps start s → StartsFormed start
+from_start steps start s r = starts_formed start r.reached.starts r.well_formed
 
-  pub clients_show_documents : ClientsShowDocuments
-  clients_show_documents steps start s source r =
-      let c = s.clients source in
-      shown_of_made c.pending c.document ((edits_stay_made steps start s r).clients source).pending
+pub edits_stay_made : EditsStayMade
+edits_stay_made steps start s r =
+    made_run start (from_start steps start s r) steps start s (consistent_start start r.reached.starts) (made_start start r.reached.starts) r.reached.run r.steps_in_range
 
-  pub none_is_stuck : NoneIsStuck
-  none_is_stuck steps start s source r =
-      let h = runs_are_consistent steps start s r.reached in
-      quiet_or_awaits s source h (drop (s.clients source).version s.log) (s.clients source).pending refl refl
+pub clients_show_documents : ClientsShowDocuments
+clients_show_documents steps start s source r =
+    let c = s.clients source in
+    shown_of_made c.pending c.document ((edits_stay_made steps start s r).clients source).pending
 
-  pub entries_are_processed : EntriesAreProcessed
-  entries_are_processed steps start s source e later r is range =
-      let h = runs_are_consistent steps start s r.reached in
-      let a = edits_stay_made steps start s r in
-      entry_is_processed s h a source e later (stored_made s.log h.log_is_made a.entries) is range
+pub none_is_stuck : NoneIsStuck
+none_is_stuck steps start s source r =
+    let h = runs_are_consistent steps start s r.reached in
+    quiet_or_awaits s source h (drop (s.clients source).version s.log) (s.clients source).pending refl refl
 
-  pub none_refused : NoneRefused
-  none_refused steps start s m via by now code r has range k =
-      not_refused refusals s (runs_are_consistent steps start s r.reached) (edits_stay_made steps start s r) m has via by now range code k
+pub entries_are_processed : EntriesAreProcessed
+entries_are_processed steps start s source e later r is range =
+    let h = runs_are_consistent steps start s r.reached in
+    let a = edits_stay_made steps start s r in
+    entry_is_processed start s (from_start steps start s r) h a source e later is range
+
+pub none_refused : NoneRefused
+none_refused steps start s m via by now code r has range k =
+    not_refused start s (from_start steps start s r) (runs_are_consistent steps start s r.reached) (edits_stay_made steps start s r) m has via by now range code k

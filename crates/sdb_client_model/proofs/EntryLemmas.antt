@@ -51,7 +51,7 @@ below_length (x ∷ log) (suc v) e later h = let rest = below_length log v e lat
 
 -- ---- the documents
 
-abbrev IsFormedDocument : Option Value → Type 0
+abbrev pub IsFormedDocument : Option Value → Type 0
 IsFormedDocument None = ⊤
 IsFormedDocument (Some d) = IsFormed d
 
@@ -68,17 +68,17 @@ formed_after (edit op) (Some d) n f h e =
     subst IsFormedDocument (same_ok (Some r.result) n (sym (apply_edit op d r.result r.applied) ∙ e)) (run_formed op d r.result f r.run)
 
 -- the entries after a prefix are made for the document after it
-record RestMade (es : List PlainEntry) (d : Option Value) : Type 0 where
+pub record RestMade (es : List PlainEntry) (d : Option Value) : Type 0 where
   pub formed : IsFormedDocument d
   pub made : AreEntriesMadeFor es d
 
-made_after : (xs ys : List PlainEntry) (d n : Option Value) → IsFormedDocument d → AreEntriesMadeFor (xs ++ ys) d → snap_from d xs ≡ Some n → RestMade ys n
+pub made_after : (xs ys : List PlainEntry) (d n : Option Value) → IsFormedDocument d → AreEntriesMadeFor (xs ++ ys) d → snap_from d xs ≡ Some n → RestMade ys n
 made_after [] ys d n f h s = subst (RestMade ys) (same_some d n s) (record { formed = f; made = h })
 made_after (x ∷ xs) ys d n f h s =
     made_after xs ys h.1 n (formed_after x.content d h.1 f h.0 h.2) h.3
     (sym (ap (λ r. option_and_then (λ m. snap_from m xs) (result_ok r)) h.2) ∙ s)
 
-edit_of : (m : PlainContent) → IsEdit m → (op : List PlainComponent) × (m ≡ edit op)
+pub edit_of : (m : PlainContent) → IsEdit m → (op : List PlainComponent) × (m ≡ edit op)
 edit_of (create v) h = absurd h
 edit_of delete h = absurd h
 edit_of (edit op) h = (op, refl)
@@ -111,11 +111,10 @@ pub record MadeEntryAt (log : List PlainEntry) (v : ℕ) (e : PlainEntry) (d : V
   pub formed : IsFormed d
   pub made : AreMadeFor at.operation d
 
-pub made_entry : (log : List PlainEntry) (v : ℕ) (e : PlainEntry) (later : List PlainEntry) (d : Value) → AreEntriesMadeFor log None → snap (take v log) ≡ Some (Some d)
+pub made_entry : (log : List PlainEntry) (v : ℕ) (e : PlainEntry) (later : List PlainEntry) (d : Value) → RestMade (drop v log) (Some d) → snap (take v log) ≡ Some (Some d)
     → drop v log ≡ e ∷ later → IsEdit e.content → MadeEntryAt log v e d
 unfolding edit_of
-made_entry log v e later d h s is edits =
-    let rest = made_after (take v log) (drop v log) None (Some d) tt (subst (λ l. AreEntriesMadeFor l None) (sym (take-append-drop v log)) h) s in
+made_entry log v e later d rest s is edits =
     let made = subst (λ l. AreEntriesMadeFor l (Some d)) is rest.made in
     let op = edit_of e.content edits in
     let here : AreMadeFor op.0 d = subst (λ m. IsContentMadeFor m (Some d)) op.1 made.0 in

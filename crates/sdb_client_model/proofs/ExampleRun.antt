@@ -439,7 +439,7 @@ row_steps =
 pub row_run : IsReachedInRange steps start s16
 row_run = record {
   reached = record { starts = row_start; run = run_of steps start s16 row_steps };
-  entries_made = (tt, tt);
+  well_formed = tt;
   steps_in_range = range_of steps start s16 row_steps;
 }
 

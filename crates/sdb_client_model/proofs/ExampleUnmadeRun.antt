@@ -6,6 +6,7 @@ use Rattle.sdb_value.specs.Value.{Value, null, truth, object, no_members, member
 use Rattle.sdb_component.specs.Plain.{oi, or, PlainComponent}
 use Rattle.sdb_transform.specs.Convergence.{HasExpectedKey}
 use Rattle.sdb_transform.specs.Transform.{component_at}
+use Rattle.sdb_transform.specs.OperationConvergence.{AreMadeFor}
 use Rattle.sdb_transform.specs.Cross.{cross, cross_in}
 use Rattle.sdb_oplog.specs.Plain.{PlainContent, create, edit, PlainEntry}
 use Rattle.sdb_oplog.specs.Snap.{document_of}
@@ -13,6 +14,7 @@ use Rattle.sdb_oplog.specs.RebasedContents.{AreMadeAtBase}
 use Rattle.sdb_client_model.specs.Client.{SentEdit, Client, after_edit}
 use Rattle.sdb_client_model.specs.Machine.{SubmittedEdit, SharedDocument, ClientStep, make_edit, send_edit, decide_edit, process_entry, with_changed_client, submission_of, after_sending, after_decision, IsClientStep}
 use Rattle.sdb_client_model.specs.Convergence.{IsStart, IsReached, IsQuiet}
+use Rattle.sdb_client_model.specs.MadeEdits.{IsReachedInRange}
 use Rattle.sdb_client_model.specs.InRange.{IsMadeForShown}
 use Rattle.sdb_client_model.proofs.PendingLemmas.{same_some}
 
@@ -246,3 +248,22 @@ row_quiet = (record { all_processed = refl; none_pending = refl }, record { all_
 pub row_log : document_of s10.log ≡ Some (with_key null)
 unfolding cross cross_in
 row_log = refl
+
+-- ---- a run in range from the same start: a replaces the present value
+
+abbrev replace : List PlainComponent
+replace = component_at [] (or k (truth true) null) ∷ []
+
+abbrev s11 : SharedDocument
+s11 = with_changed_client start a (after_edit replace (start.clients a))
+
+replace_made : AreMadeFor replace (with_key (truth true))
+replace_made = ((record { position = with_key (truth true); result = with_key null; found = refl; accepted = refl; key = refl }, tt), ((tt, tt), tt))
+
+pub row_in_range : IsReachedInRange (make_edit a replace ∷ []) start s11
+unfolding lib.Utf8.encode
+row_in_range = record {
+  reached = record { starts = row_start; run = (s11, refl, refl) };
+  well_formed = ((107 ∷ [], (refl, refl)), tt, tt, tt);
+  steps_in_range = (replace_made, tt);
+}

@@ -3,6 +3,7 @@ mod EntryLemmas
 mod AppendLemmas
 mod ClientSteps
 mod DecisionLemmas
+mod RebasedInRange
 mod MadeEdits
 mod ClientRuns
 mod StoredOnceLemmas

@@ -47,7 +47,7 @@ crossed_made op received d e f x w a b h k crossed r =
       formed = run_formed op d e w left;
     }
 
-not_none : (op received : List PlainComponent) → cross_ops op received ≡ None → (x : Crossing PlainComponent) × (cross_ops op received ≡ Some x) → ⊥
+pub not_none : (op received : List PlainComponent) → cross_ops op received ≡ None → (x : Crossing PlainComponent) × (cross_ops op received ≡ Some x) → ⊥
 not_none op received none x = let bad : None ≡ Some x.0 = sym none ∙ x.1 in cc
 
 -- a crossing exists if no position leaves the range

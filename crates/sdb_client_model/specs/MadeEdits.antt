@@ -1,5 +1,5 @@
 -- Edits that are made for what their clients show: they stay made, none is refused, and each entry can be processed.
-use Rattle.std.specs.Prelude.{◌≡◌, ℕ, List, [], ◌∷◌, take, drop, true, false, Option, Some, None, option_and_then, Contains, ◌⊎◌, ⊤}
+use Rattle.std.specs.Prelude.{◌≡◌, ℕ, ◌≤◌, List, [], ◌∷◌, ◌++◌, length, take, drop, true, false, Option, Some, None, option_and_then, Contains, ◌⊎◌, ⊤}
 use Rattle.sdb_value.specs.Value.{Value}
 use Rattle.sdb_component.specs.Plain.{PlainComponent}
 use Rattle.sdb_apply.specs.Apply.{apply}
@@ -7,7 +7,7 @@ use Rattle.sdb_transform.specs.OperationConvergence.{AreMadeFor}
 use Rattle.sdb_oplog.specs.Plain.{edit, PlainEntry}
 use Rattle.sdb_oplog.specs.Snap.{document_of, stored_at}
 use Rattle.sdb_oplog.specs.Decide.{refused, decide}
-use Rattle.sdb_oplog.specs.RebasedContents.{IsContentMadeFor, AreMadeAtBase}
+use Rattle.sdb_oplog.specs.RebasedContents.{IsContentMadeFor, AreEntriesMadeFor, IsWellFormedDocument}
 use Rattle.sdb_oplog.specs.declared.codes.Code.{Code}
 use Rattle.sdb_client_model.specs.Client.{SentEdit, Client, shown_document, PendingCrossing, cross_pending, is_sent_edit, after_entry}
 use Rattle.sdb_client_model.specs.Machine.{SubmittedEdit, SharedDocument, ClientStep, decide_edit, process_entry, submission_of}
@@ -21,28 +21,31 @@ abbrev pub ArePendingMade : List (List PlainComponent) → Value → Type 0
 ArePendingMade [] d = ⊤
 ArePendingMade (op ∷ ops) d = AreMadeFor op d × (e : Value) × (apply op d ≡ Some e) × ArePendingMade ops e
 
--- what was sent is made for the document at its base version
-abbrev pub IsSentMade : List PlainEntry → Option SentEdit → Type 0
-IsSentMade log None = ⊤
-IsSentMade log (Some t) = IsContentMadeFor (edit t.operation) (document_of (take t.base log))
+-- what was sent is made for the document at its base version, which is n at least
+abbrev pub IsSentMade : ℕ → List PlainEntry → Option SentEdit → Type 0
+IsSentMade n log None = ⊤
+IsSentMade n log (Some t) = (n ≤ t.base) × IsContentMadeFor (edit t.operation) (document_of (take t.base log))
 
--- the edits of a client are made
-pub record AreOwnEditsMade (log : List PlainEntry) (c : Client) : Type 0 where
+-- the edits of a client are made, whose version is n at least
+pub record AreOwnEditsMade (n : ℕ) (log : List PlainEntry) (c : Client) : Type 0 where
+  pub version_reached : n ≤ c.version
   -- what is pending is made for its document, so it shows a document
   pub pending : ArePendingMade c.pending c.document
-  pub sent : IsSentMade log c.sent
+  pub sent : IsSentMade n log c.sent
 
--- the edits of all clients are made, stored ones too
-pub record AreEditsMade (s : SharedDocument) : Type 0 where
-  pub entries : AreMadeAtBase s.log
-  pub clients : (source : List ℕ) → AreOwnEditsMade s.log (s.clients source)
+-- the edits of all clients are made, those too that are stored since the start
+pub record AreEditsMade (start s : SharedDocument) : Type 0 where
+  pub entries : List PlainEntry
+  pub log : s.log ≡ start.log ++ entries
+  pub made : AreEntriesMadeFor entries (document_of start.log)
+  pub clients : (source : List ℕ) → AreOwnEditsMade (length start.log) s.log (s.clients source)
 
 -- ---- runs
 
--- s is reached by steps in range, and each submission of the start was made for the document at its base version
+-- s is reached by steps in range from a well-formed document
 pub record IsReachedInRange (steps : List ClientStep) (start s : SharedDocument) : Type 0 where
   pub reached : IsReached steps start s
-  pub entries_made : AreMadeAtBase start.log
+  pub well_formed : IsWellFormedDocument (document_of start.log)
   pub steps_in_range : AreStepsInRange steps start s reached.run
 
 -- ---- laws of these runs
@@ -50,7 +53,7 @@ pub record IsReachedInRange (steps : List ClientStep) (start s : SharedDocument)
 -- each edit stays made
 abbrev pub EditsStayMade : Type 0
 EditsStayMade =
-    (steps : List ClientStep) (start s : SharedDocument) → IsReachedInRange steps start s → AreEditsMade s
+    (steps : List ClientStep) (start s : SharedDocument) → IsReachedInRange steps start s → AreEditsMade start s
 
 -- each client shows a document
 abbrev pub ClientsShowDocuments : Type 0

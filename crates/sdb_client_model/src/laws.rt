@@ -3,8 +3,6 @@ ghost use Rattle.sdb_client_model.specs.Convergence.{RunsAreConsistent, ClientsC
 ghost use Rattle.sdb_client_model.specs.MadeEdits.{EditsStayMade, ClientsShowDocuments, NoneIsStuck, NoneRefused, EntriesAreProcessed};
 ghost use Rattle.sdb_client_model.specs.StoredOnce.{AllEditsAreStored, NoneStoredTwice};
 
-use sdb_oplog::laws::{refusals_have_causes, stored_entries_are_made};
-
 /// States convergence of the clients of a document after each run. A client that has processed all
 /// entries and has no pending edit shows the server's document. Two clients without a pending edit
 /// show the same document, if they have processed equally many entries.
@@ -18,37 +16,32 @@ pub fn clients_converge()
     ensures invariant { RunsAreConsistent }
 {}
 
-/// States that the edits of clients stay made while they are transformed, if each is made for what
-/// its client shows, and no sum and no position leaves the range. So each client shows a document.
+/// States that the edits of clients stay made while they are transformed, so each client shows a
+/// document. The premises are that the start's document is well formed, each edit is made for what
+/// its client shows, the log isn't full, and no sum and no position leaves the range.
 pub fn edits_stay_made()
     ensures made { EditsStayMade }
     ensures shown { ClientsShowDocuments }
-{
-    stored_entries_are_made();
-    refusals_have_causes();
-}
+{}
 
-/// States that the server refuses no edit of a client. It stores the edit, or it is a duplicate.
+/// States that the server refuses no edit of a client. It stores the edit, or it is a duplicate. The
+/// premises are those of [`edits_stay_made`].
 pub fn no_edit_is_refused()
     ensures { NoneRefused }
-{
-    stored_entries_are_made();
-    refusals_have_causes();
-}
+{}
 
 /// States that a client can process the entry at its version. An acknowledgement doesn't change what
 /// the client shows, and another one's edit is transformed and applied to it. So no client is stuck
 /// before it has processed all entries and has no pending edit.
+///
+/// The premises are those of [`edits_stay_made`].
 pub fn entries_are_processed()
     ensures entries { EntriesAreProcessed }
     ensures none_stuck { NoneIsStuck }
-{
-    stored_entries_are_made();
-    refusals_have_causes();
-}
+{}
 
-/// States that each edit of a client is stored once, in the order in which the client made them, or
-/// is still in the network or in its queue. No two entries have the same source and seq.
+/// States for each run that each edit of a client is stored once, in the order in which the client
+/// made them, or is sent or in its queue. No two entries have the same source and seq.
 pub fn edits_are_stored_once()
     ensures edits { AllEditsAreStored }
     ensures entries { NoneStoredTwice }

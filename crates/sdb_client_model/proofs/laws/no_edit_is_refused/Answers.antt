@@ -2,4 +2,4 @@ use Rattle.sdb_client_model.proofs.ClientRuns.{none_refused}
 use Rattle.sdb_client_model.proofs.laws.no_edit_is_refused.Goals as goal
 
 pub returns : goal.returns
-returns c = none_refused c.stored_entries_are_made.ensures.entries c.refusals_have_causes.ensures.all_made
+returns c = none_refused
