@@ -15,7 +15,7 @@ use Rattle.sdb_client_model.specs.Client.{SentEdit, Client, after_edit}
 use Rattle.sdb_client_model.specs.Machine.{SubmittedEdit, SharedDocument, ClientStep, make_edit, send_edit, decide_edit, process_entry, with_changed_client, submission_of, after_sending, after_decision, IsClientStep}
 use Rattle.sdb_client_model.specs.Convergence.{IsStart, IsReached, IsQuiet}
 use Rattle.sdb_client_model.specs.MadeEdits.{IsReachedInRange}
-use Rattle.sdb_client_model.specs.InRange.{IsMadeForShown}
+use Rattle.sdb_client_model.specs.InRange.{IsMadeForShown, IsStepInRange}
 use Rattle.sdb_client_model.proofs.PendingLemmas.{same_some}
 
 -- ---- the start: an object whose key was set twice, the second time without removing the first value
@@ -149,12 +149,18 @@ s9 = with_changed_client s8 a (client 3 (with_key (truth false)) [] None 4)
 abbrev s10 : SharedDocument
 s10 = with_changed_client s9 a (client 4 (with_key null) [] None 4)
 
--- a's edit isn't made for what its client shows
-pub not_made_now : IsMadeForShown (set (truth false)) (Some (with_key (truth true))) → ⊥
-not_made_now made =
+-- neither edit is made for what its client shows
+not_made_now : (v : Value) → IsMadeForShown (set v) (Some (with_key (truth true))) → ⊥
+not_made_now v made =
     let w = made.0.0 in
-    let absent = subst (HasExpectedKey (oi k (truth false))) (sym (same_some (with_key (truth true)) w.position w.found)) w.key in
+    let absent = subst (HasExpectedKey (oi k v)) (sym (same_some (with_key (truth true)) w.position w.found)) w.key in
     cc
+
+pub not_in_range_of_a : IsStepInRange (make_edit a (set (truth false))) start → ⊥
+not_in_range_of_a h = not_made_now (truth false) h
+
+pub not_in_range_of_b : IsStepInRange (make_edit b (set null)) s1 → ⊥
+not_in_range_of_b h = not_made_now null h
 
 -- ---- the run
 
