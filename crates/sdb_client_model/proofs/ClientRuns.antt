@@ -16,7 +16,7 @@ use Rattle.sdb_client_model.specs.Client.{SentEdit, Client, shown_document, appl
 use Rattle.sdb_client_model.specs.Machine.{SubmittedEdit, SharedDocument, ClientStep, make_edit, send_edit, decide_edit, process_entry, IsClientStep, IsClientRun}
 use Rattle.sdb_client_model.specs.Invariant.{AreEdits, IsSentEditOf, IsSentOrNone, FollowsLog, IsStoredOrSent, IsConsistent}
 use Rattle.sdb_client_model.specs.Convergence.{IsNewClient, IsStart, RunsAreConsistent, ClientsConverge, ClientsAgree, IsQuiet}
-use Rattle.sdb_client_model.specs.InRange.{AreStepsInRange, IsStepInRange}
+use Rattle.sdb_client_model.specs.RunPremises.{AreStepsInRange, IsStepInRange}
 use Rattle.sdb_client_model.specs.MadeEdits.{ArePendingMade, IsSentMade, AreOwnEditsMade, AreEditsMade, EditsStayMade, ClientsShowDocuments, AwaitsStep, NoneIsStuck, NoneRefused, EntriesAreProcessed, awaits_entry, awaits_send, awaits_decision, IsReachedInRange}
 use Rattle.sdb_client_model.proofs.ClientSteps.{consistent_edit, consistent_send, consistent_entry}
 use Rattle.sdb_client_model.proofs.PendingLemmas.{shown_of_made}
@@ -122,7 +122,7 @@ own_edits_of_new : (log : List PlainEntry) (source : List ℕ) (c : Client) → 
 own_edits_of_new log source c n =
     let length_is = n.version in
     record {
-      version_reached = omega arith;
+      start_reached = omega arith;
       pending = subst (λ ops. ArePendingMade ops c.document) (sym n.pending) tt;
       sent = subst (IsSentMade (length log) log) (sym n.sent) tt;
     }

@@ -17,7 +17,7 @@ use Rattle.sdb_oplog.specs.RebasedContents.{base_document, PositionLeavesRangeAm
 use Rattle.sdb_client_model.specs.Client.{SentEdit, Client, shown_document, after_edit}
 use Rattle.sdb_client_model.specs.Machine.{SubmittedEdit, SharedDocument, ClientStep, make_edit, send_edit, decide_edit, process_entry, with_changed_client, submission_of, after_sending, after_decision, IsClientStep, IsClientRun}
 use Rattle.sdb_client_model.specs.Convergence.{IsStart}
-use Rattle.sdb_client_model.specs.InRange.{CrossesInRange, PendingCrossesInRange, IsRebasedInRange, AreStepsInRange, IsStepInRange}
+use Rattle.sdb_client_model.specs.RunPremises.{CrossesInRange, PendingCrossesInRange, IsRebasedInRange, AreStepsInRange, IsStepInRange}
 use Rattle.sdb_client_model.specs.MadeEdits.{IsReachedInRange}
 
 -- ---- the start: a list without items

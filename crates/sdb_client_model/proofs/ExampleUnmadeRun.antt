@@ -15,7 +15,7 @@ use Rattle.sdb_client_model.specs.Client.{SentEdit, Client, after_edit}
 use Rattle.sdb_client_model.specs.Machine.{SubmittedEdit, SharedDocument, ClientStep, make_edit, send_edit, decide_edit, process_entry, with_changed_client, submission_of, after_sending, after_decision, IsClientStep}
 use Rattle.sdb_client_model.specs.Convergence.{IsStart, IsReached, IsQuiet}
 use Rattle.sdb_client_model.specs.MadeEdits.{IsReachedInRange}
-use Rattle.sdb_client_model.specs.InRange.{IsMadeForShown, IsStepInRange}
+use Rattle.sdb_client_model.specs.RunPremises.{IsMadeForShown, IsStepInRange}
 use Rattle.sdb_client_model.proofs.PendingLemmas.{same_some}
 
 -- ---- the start: an object whose key was set twice, the second time without removing the first value

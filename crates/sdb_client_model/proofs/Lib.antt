@@ -3,7 +3,7 @@ mod EntryLemmas
 mod AppendLemmas
 mod ClientSteps
 mod DecisionLemmas
-mod RebasedInRange
+mod StoredEdits
 mod MadeEdits
 mod ClientRuns
 mod StoredOnceLemmas

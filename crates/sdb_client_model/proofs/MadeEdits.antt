@@ -14,11 +14,11 @@ use Rattle.sdb_oplog.specs.laws.DecidedLogLaws.{alive_of_made}
 use Rattle.sdb_client_model.specs.Client.{SentEdit, Client, apply_all, is_sent_edit, after_edit, after_send, after_acknowledgement, after_content, after_entry}
 use Rattle.sdb_client_model.specs.Machine.{SubmittedEdit, SharedDocument, with_client, with_changed_client, after_sending, submission_of, after_decision}
 use Rattle.sdb_client_model.specs.Invariant.{AreEdits, IsSentEditOf, IsSentOrNone, FollowsLog, IsConsistent}
-use Rattle.sdb_client_model.specs.InRange.{IsMadeForShown, ProcessesInRange, IsRebasedInRange}
+use Rattle.sdb_client_model.specs.RunPremises.{IsMadeForShown, ProcessesInRange, IsRebasedInRange}
 use Rattle.sdb_client_model.specs.MadeEdits.{ArePendingMade, IsSentMade, AreOwnEditsMade, AreEditsMade, AppliesReceived, IsProcessed}
 use Rattle.sdb_client_model.proofs.PendingLemmas.{same_some, PendingCrossed, pending_crossed, made_for_shown, pending_made_append}
 use Rattle.sdb_client_model.proofs.EntryLemmas.{same_operation, apply_edit, IsFormedDocument, RestMade, MadeEntryAt, made_entry}
-use Rattle.sdb_client_model.proofs.RebasedInRange.{snap_append, snap_at, rest_made, made_append, StoredEdit, stored_edit}
+use Rattle.sdb_client_model.proofs.StoredEdits.{snap_append, snap_at, rest_made, made_append, StoredEdit, stored_edit}
 use Rattle.sdb_client_model.proofs.ClientSteps.{client_at, acknowledged, acknowledgement, acknowledged_shown, first_applied, received, received_client}
 use Rattle.sdb_client_model.proofs.DecisionLemmas.{sent_by_client, sent_edit}
 
@@ -58,7 +58,7 @@ module _ (start s : SharedDocument) (from : StartsFormed start) (h : IsConsisten
       let d = made_for_shown op (apply_all old.pending old.document) made in
       let c = after_edit op old in
       made_changed (with_changed_client s source c) c refl refl
-      (record { version_reached = own.version_reached; pending = pending_made_append old.pending op old.document d.0 own.pending d.1 d.2; sent = own.sent })
+      (record { start_reached = own.start_reached; pending = pending_made_append old.pending op old.document d.0 own.pending d.1 d.2; sent = own.sent })
 
   pub made_send : (op : List PlainComponent) (rest : List (List PlainComponent)) → old.pending ≡ op ∷ rest → AreEditsMade start (after_sending s source op)
   made_send op rest first =
@@ -66,7 +66,7 @@ module _ (start s : SharedDocument) (from : StartsFormed start) (h : IsConsisten
       let made = subst (λ ops. ArePendingMade ops old.document) first own.pending in
       let document = ap (λ o. unwrap_or o None) (h.clients source).document in
       made_changed (after_sending s source op) (after_send op old) refl refl
-      (record { version_reached = own.version_reached; pending = own.pending; sent = (own.version_reached, subst (IsContentMadeFor (edit op)) (sym document) made.0) })
+      (record { start_reached = own.start_reached; pending = own.pending; sent = (own.start_reached, subst (IsContentMadeFor (edit op)) (sym document) made.0) })
 
   -- ---- an entry
 
@@ -96,8 +96,8 @@ module _ (start s : SharedDocument) (from : StartsFormed start) (h : IsConsisten
       own_made =
           let made = subst (λ ops. ArePendingMade ops old.document) r.first (a.clients source).pending in
           let first = first_applied s h source e later is m.at t is_sent identified r in
-          let reached = (a.clients source).version_reached in
-          record { version_reached = omega arith; pending = subst (ArePendingMade r.queue) (same_some made.1 m.at.after (sym made.2 ∙ first)) made.3; sent = tt }
+          let reached = (a.clients source).start_reached in
+          record { start_reached = omega arith; pending = subst (ArePendingMade r.queue) (same_some made.1 m.at.after (sym made.2 ∙ first)) made.3; sent = tt }
 
     module _ (other : is_sent_edit source old.sent e ≡ false) where
       abbrev p : PendingCrossed old.pending m.at.operation old.document m.at.after
@@ -117,7 +117,7 @@ module _ (start s : SharedDocument) (from : StartsFormed start) (h : IsConsisten
       }
 
       other_made : AreMade other_processed.client
-      other_made = let reached = (a.clients source).version_reached in record { version_reached = omega arith; pending = p.made; sent = (a.clients source).sent }
+      other_made = let reached = (a.clients source).start_reached in record { start_reached = omega arith; pending = p.made; sent = (a.clients source).sent }
 
     -- the client after the entry exists, and its edits are made
     abbrev Processed : Type 0
@@ -139,7 +139,7 @@ module _ (start s : SharedDocument) (from : StartsFormed start) (h : IsConsisten
     at_version =
         let f = h.clients source in
         let edits = subst AreEdits is f.edits in
-        made_entry s.log old.version e later old.document (made_since start s old.version (Some old.document) from a (a.clients source).version_reached f.document) f.document is edits.0
+        made_entry s.log old.version e later old.document (made_since start s old.version (Some old.document) from a (a.clients source).start_reached f.document) f.document is edits.0
 
     processed_at : Processed e later is at_version (subst (ProcessesInRange source old) is range)
     processed_at = processed e later is at_version (subst (ProcessesInRange source old) is range)
@@ -210,7 +210,7 @@ module _ (start s : SharedDocument) (from : StartsFormed start) (h : IsConsisten
           let c = s.clients other in
           let f = h.clients other in
           let own = a.clients other in
-          record { version_reached = own.version_reached; pending = own.pending; sent = sent_made_append entry other c c.sent f f.sent own.sent };
+          record { start_reached = own.start_reached; pending = own.pending; sent = sent_made_append entry other c c.sent f f.sent own.sent };
     }
 
     made_new : AreEditsMade start (after_decision s submission now)

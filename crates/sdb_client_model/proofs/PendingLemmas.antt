@@ -11,7 +11,7 @@ use Rattle.sdb_transform.proofs.OperationRuns.{OperationRun, MadeResult, MadeOrO
 use Rattle.sdb_transform.proofs.CrossingExistence.{crossing_of_runs}
 use Rattle.sdb_transform.proofs.OperationLemmas.{cross_runs}
 use Rattle.sdb_client_model.specs.Client.{apply_all, PendingCrossing, cross_pending}
-use Rattle.sdb_client_model.specs.InRange.{IsMadeForShown, CrossesInRange, PendingCrossesInRange}
+use Rattle.sdb_client_model.specs.RunPremises.{IsMadeForShown, CrossesInRange, PendingCrossesInRange}
 use Rattle.sdb_client_model.specs.MadeEdits.{ArePendingMade}
 
 pub same_some : {A : Type 0} (x y : A) → Some x ≡ Some y → x ≡ y

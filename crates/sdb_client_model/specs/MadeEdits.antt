@@ -11,7 +11,7 @@ use Rattle.sdb_oplog.specs.RebasedContents.{IsContentMadeFor, AreEntriesMadeFor,
 use Rattle.sdb_oplog.specs.declared.codes.Code.{Code}
 use Rattle.sdb_client_model.specs.Client.{SentEdit, Client, shown_document, PendingCrossing, cross_pending, is_sent_edit, after_entry}
 use Rattle.sdb_client_model.specs.Machine.{SubmittedEdit, SharedDocument, ClientStep, decide_edit, process_entry, submission_of}
-use Rattle.sdb_client_model.specs.InRange.{IsStepInRange, AreStepsInRange}
+use Rattle.sdb_client_model.specs.RunPremises.{IsStepInRange, AreStepsInRange}
 use Rattle.sdb_client_model.specs.Convergence.{IsReached, IsQuiet}
 
 -- ---- made edits
@@ -21,19 +21,19 @@ abbrev pub ArePendingMade : List (List PlainComponent) → Value → Type 0
 ArePendingMade [] d = ⊤
 ArePendingMade (op ∷ ops) d = AreMadeFor op d × (e : Value) × (apply op d ≡ Some e) × ArePendingMade ops e
 
--- what was sent is made for the document at its base version, which is n at least
+-- what was sent is made for the document at its base version, which isn't before version n
 abbrev pub IsSentMade : ℕ → List PlainEntry → Option SentEdit → Type 0
 IsSentMade n log None = ⊤
 IsSentMade n log (Some t) = (n ≤ t.base) × IsContentMadeFor (edit t.operation) (document_of (take t.base log))
 
--- the edits of a client are made, whose version is n at least
+-- the edits of a client are made, whose version isn't before n
 pub record AreOwnEditsMade (n : ℕ) (log : List PlainEntry) (c : Client) : Type 0 where
-  pub version_reached : n ≤ c.version
+  pub start_reached : n ≤ c.version
   -- what is pending is made for its document, so it shows a document
   pub pending : ArePendingMade c.pending c.document
   pub sent : IsSentMade n log c.sent
 
--- the edits of all clients are made, those too that are stored since the start
+-- the edits of all clients are made, and the entries that are stored since the start
 pub record AreEditsMade (start s : SharedDocument) : Type 0 where
   pub entries : List PlainEntry
   pub log : s.log ≡ start.log ++ entries
