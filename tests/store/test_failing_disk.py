@@ -22,12 +22,12 @@ HOLD = 30  # seconds after which a client with held output is closed
 LATE = 20  # seconds more, for a busy machine
 # the calls of the store that fail, and the status of the program: a failed write is tried again, a failed sync closes the file
 FAULTS = {
-    "two writes": (f"write:34:2:{errno.EIO}", 0),
-    "three writes of a full disk": (f"write:35:3:{errno.ENOSPC}", 0),
-    "a late write": (f"write:47:1:{errno.EIO}", 0),
-    "each third write": (",".join(f"write:{at}:1:{errno.EIO}" for at in range(38, 51, 3)), 0),
-    "a sync": (f"sync:39:1:{errno.EIO}", 1),
-    "a sync of a full disk": (f"sync:41:1:{errno.ENOSPC}", 1),
+    "two writes": (f"write:35:2:{errno.EIO}", 0),
+    "three writes of a full disk": (f"write:36:3:{errno.ENOSPC}", 0),
+    "a late write": (f"write:48:1:{errno.EIO}", 0),
+    "each third write": (",".join(f"write:{at}:1:{errno.EIO}" for at in range(39, 52, 3)), 0),
+    "a sync": (f"sync:40:1:{errno.EIO}", 1),
+    "a sync of a full disk": (f"sync:42:1:{errno.ENOSPC}", 1),
     "the truncation at the end": (f"truncate:3:1:{errno.EIO}", 1),
 }
 
