@@ -19,6 +19,8 @@ mod projection;
 #[cfg(test)]
 mod reconnect;
 #[cfg(test)]
+mod saver;
+#[cfg(test)]
 mod session;
 #[cfg(test)]
 mod step_runs;
