@@ -230,6 +230,33 @@ fn a_hold_lasts_at_most_half_a_minute(rt: HostRuntime) {
 }
 
 #[test]
+fn a_round_commits_only_tickets_that_were_taken_before_it(rt: HostRuntime) {
+    let progress = SaveProgress::new(0);
+    let earlier = progress.request();
+    let round = progress.begin_round();
+    let later = progress.request();
+    assert!(rt; !progress.is_committed(earlier));
+    progress.end_round(round, 0);
+    assert!(rt; progress.is_committed(earlier));
+    assert!(rt; !progress.is_committed(later));
+    let round = progress.begin_round();
+    progress.end_round(round, 0);
+    assert!(rt; progress.is_committed(later));
+}
+
+#[test]
+fn a_number_is_given_once_it_is_reserved(rt: HostRuntime) {
+    let progress = SaveProgress::new(3);
+    assert!(rt; progress.reserve_number(3));
+    assert!(rt; !progress.reserve_number(4));
+    assert_eq!(rt; progress.requested_number(), 4);
+    let round = progress.begin_round();
+    progress.end_round(round, 4);
+    assert!(rt; progress.reserve_number(4));
+    assert!(rt; !progress.reserve_number(5));
+}
+
+#[test]
 fn a_record_has_the_begin_of_an_outage(rt: HostRuntime) {
     let record = SaveRecord::new();
     assert!(rt; record.add_failure(RoundFailure::DiskFull, 100));
