@@ -6,9 +6,10 @@ ghost use Rattle.sdb_event_loop.specs.LoopModel.{IsHostOfLoops};
 
 use crate::clients::{Client, FIRST_INIT, connect_websocket, expect_close, expect_text, send_text};
 use crate::connections::{CREATE, CREATED, SECOND_INIT, SUBSCRIBE, SUBSCRIBED};
+use mio::net::TcpStream as MioStream;
 use sdb_backend::Backend;
 use sdb_event_loop::{LoopOptions, LoopServer, listen_on_loops};
-use sdb_link::{Deadlines, DueAction, LoopTime, SessionEnd};
+use sdb_link::{ClosingConnection, Deadlines, DueAction, Link, LoopTime, SessionEnd};
 use sdb_loop_state::LargeTurns;
 use sdb_progress::{Histogram, RoundFailure, SaveOutage, SaveProgress, SaveRecord};
 use sdb_projection::Table;
@@ -227,6 +228,21 @@ fn a_hold_lasts_at_most_half_a_minute(rt: HostRuntime) {
     time.millis = 12_150;
     assert_eq!(rt; deadlines.end_hold(time), 1_750);
     assert!(rt; matches!(deadlines.next_action(40, false), DueAction::Nothing));
+}
+
+#[test]
+fn a_closing_client_has_half_a_minute_for_held_output(rt: HostRuntime) -> Result<(), Fail> {
+    let alloc = rt.alloc();
+    let listener = TcpListener::bind(&rt, "127.0.0.1:0")?;
+    let progress = SaveProgress::new(0);
+    let mut link = Link::new(alloc, MioStream::connect(&rt, listener.local_addr()?)?);
+    let mut output = Vec::from_elem(alloc, 0, 1)?;
+    link.send(&mut output, Some(progress.request()))?;
+    let closing = ClosingConnection::new(link, None, Vec::new(alloc), 5, false);
+    assert!(rt; !closing.is_late(34, false));
+    assert!(rt; closing.is_late(35, false));
+    assert!(rt; closing.is_late(5, true));
+    Ok(())
 }
 
 #[test]
