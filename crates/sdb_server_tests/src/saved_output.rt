@@ -5,7 +5,10 @@ ghost use Rattle.sdb_backend.specs.declared.pass.Host.{Host as HostState};
 ghost use Rattle.sdb_event_loop.specs.LoopModel.{IsHostOfLoops};
 
 use crate::clients::{Client, FIRST_INIT, connect_websocket, expect_close, expect_text, send_text};
-use crate::connections::{CREATE, CREATED, SECOND_INIT, SUBSCRIBE, SUBSCRIBED};
+use crate::connections::{
+    CREATE, CREATED, EDIT, EDITED, FETCH, FETCHED, OP_MESSAGE, SECOND_INIT, SUBSCRIBE, SUBSCRIBED,
+};
+use crate::wakeups::{assert_soon, now};
 use mio::net::TcpStream as MioStream;
 use sdb_backend::Backend;
 use sdb_event_loop::{LoopOptions, LoopServer, listen_on_loops};
@@ -37,9 +40,20 @@ const QUIET_MS: u64 = 300;
 // The read timeout of a client, and the longest wait for a request, in seconds.
 const PATIENCE_SECONDS: u64 = 20;
 
-// How a server ends: the last output is saved, nothing more is saved, or the disk doesn't answer.
+// Number of answers that are released one after the other, and time in milliseconds after which the loop
+// waits for the round.
+const ANSWER_COUNT: u64 = 8;
+
+const WAIT_MS: u64 = 50;
+
+// The length in bytes of a message whose turn lasts longer than a wake-up.
+const LONG_MESSAGE: usize = 200_000;
+
+// How a server ends: an operation was sent to two clients, the last output is saved, nothing more is
+// saved, or the disk doesn't answer.
 #[derive(Clone, Copy, PartialEq, Eq, Debug, Drop)]
 enum Ending {
+    Shared,
     Saved,
     Over,
     Hanging,
@@ -59,9 +73,11 @@ fn saving_server<R: Drop>(
     Ok(Arc::new(alloc, saving)?)
 }
 
-// Waits until a round is requested.
+// Waits until a round is requested. The wake-up for an earlier request may end the first wait.
 fn await_request<H: Abort + Wait>(abort: &H, progress: &SaveProgress) {
-    progress.wait(abort, Duration::from_secs(PATIENCE_SECONDS));
+    let longest = Duration::from_secs(PATIENCE_SECONDS);
+    progress.wait(abort, longest);
+    progress.wait(abort, longest);
 }
 
 // Commits a round.
@@ -98,9 +114,49 @@ fn expect_once_saved<R: Drop, H: Abort + Wait>(
     expect_text(abort, client, text);
 }
 
+// Each round wakes the loop, which releases the answer before its next sweep.
+fn release_answers<R: Drop, H: Abort + Wait>(
+    abort: &H,
+    rt: HostRuntime,
+    alloc: Global,
+    progress: &SaveProgress,
+    state: &LoopServer<R, Table>,
+    client: &mut Client,
+) {
+    let began = now(abort, rt);
+    for _ in 0..ANSWER_COUNT {
+        send_text(abort, alloc, client, FETCH);
+        await_request(abort, progress);
+        thread::sleep(&rt, Duration::from_millis(WAIT_MS));
+        commit(abort, progress, state);
+        expect_text(abort, client, FETCHED);
+    }
+    assert_soon(abort, rt, began);
+}
+
+// Creates the document by a long message. A round is requested once the operation is stored, since one
+// that begins before may miss it.
+fn save_create<R: Drop, H: Abort + Wait>(
+    abort: &H,
+    alloc: Global,
+    progress: &SaveProgress,
+    state: &LoopServer<R, Table>,
+    client: &mut Client,
+) {
+    let mut create = String::from_str(alloc, CREATE).expect(abort, "out of memory");
+    for _ in create.len()..LONG_MESSAGE {
+        create.push(' ').expect(abort, "out of memory");
+    }
+    send_text(abort, alloc, client, create.as_str());
+    await_request(abort, progress);
+    assert_eq!(abort; state.backend().counts().entries, 1);
+    expect_once_saved(abort, progress, state, client, CREATED);
+}
+
 // The first client gets no session before its number is reserved, and each answer once it is saved.
 fn save_answers<R: Drop, H: Abort + Wait>(
     abort: &H,
+    rt: HostRuntime,
     alloc: Global,
     progress: &SaveProgress,
     state: &LoopServer<R, Table>,
@@ -110,8 +166,29 @@ fn save_answers<R: Drop, H: Abort + Wait>(
     expect_nothing(abort, client);
     commit(abort, progress, state);
     expect_once_saved(abort, progress, state, client, FIRST_INIT);
-    send_text(abort, alloc, client, CREATE);
-    expect_once_saved(abort, progress, state, client, CREATED);
+    release_answers(abort, rt, alloc, progress, state, client);
+    save_create(abort, alloc, progress, state, client);
+}
+
+// The second client receives an operation of the first one once it is saved, as the first one its
+// acknowledgement.
+fn share_operation<R: Drop, H: Abort + Wait>(
+    abort: &H,
+    alloc: Global,
+    progress: &SaveProgress,
+    state: &LoopServer<R, Table>,
+    first: &mut Client,
+    second: &mut Client,
+) {
+    expect_once_saved(abort, progress, state, second, SECOND_INIT);
+    send_text(abort, alloc, second, SUBSCRIBE);
+    expect_once_saved(abort, progress, state, second, SUBSCRIBED);
+    send_text(abort, alloc, first, EDIT);
+    await_request(abort, progress);
+    expect_nothing(abort, second);
+    expect_once_saved(abort, progress, state, first, EDITED);
+    expect_text(abort, second, OP_MESSAGE);
+    state.stop(abort);
 }
 
 // The session of the second client ends as the server is stopped. Its last answer is sent once it is
@@ -162,9 +239,12 @@ fn use_and_stop<R: Drop, H: Abort + Wait>(
     ending: Ending,
 ) {
     let mut first = connect_websocket(abort, rt, alloc, address);
-    save_answers(abort, alloc, progress, state, &mut first);
-    drop(first);
+    save_answers(abort, rt, alloc, progress, state, &mut first);
     let mut second = connect_websocket(abort, rt, alloc, address);
+    if ending == Ending::Shared {
+        return share_operation(abort, alloc, progress, state, &mut first, &mut second);
+    }
+    drop(first);
     if ending == Ending::Saved {
         save_after_stop(abort, alloc, progress, state, &mut second);
     } else {
@@ -191,6 +271,11 @@ where
     listen_on_loops(rt, alloc, listener, &state, &mut host)?;
     clients.join(&rt);
     Ok(())
+}
+
+#[test]
+fn operations_of_others_are_held_until_they_are_saved(rt: HostRuntime) -> Result<(), Fail> {
+    serve_two(rt, rt, Ending::Shared)
 }
 
 #[test]
