@@ -77,7 +77,7 @@ def edit(address, number, acknowledged):
 
 @pytest.mark.parametrize("calls, status", FAULTS.values(), ids=FAULTS)
 def test_failing_calls(program, disk, tmp_path, calls, status):
-    """Nothing that is acknowledged is lost, and no operation is stored twice."""
+    """Nothing that is acknowledged is lost, and no operation is stored twice. A failed sync ends the program."""
     acknowledged = []
     with Disk(program, disk, tmp_path, FAIL=calls) as server:
         editors = [threading.Thread(target=edit, args=(server.address, number, acknowledged)) for number in range(EDITORS)]
@@ -85,8 +85,9 @@ def test_failing_calls(program, disk, tmp_path, calls, status):
             editor.start()
         for editor in editors:
             editor.join()
-        assert server.is_running() or status == 1
-        server.process.stdin.close()
+        if "sync" not in calls:
+            assert server.is_running()
+            server.process.stdin.close()
         assert server.process.wait(timeout=2 * END) == status
         errors = server.process.stderr.read()
         assert (errors.splitlines()[-1].startswith("store: ")) == (status == 1), errors
