@@ -127,6 +127,14 @@ impl<S: Alter> FileWriter<S> {
     }
 }
 
+impl<S: Alter + Drop> FileWriter<S> {
+    /// Returns the file.
+    pub(crate) fn into_file(self) -> LineFile<S> {
+        let FileWriter { file, .. } = self;
+        file
+    }
+}
+
 // Returns the number of lines of entries. The others are blocks of numbers.
 fn count_entries(group: &[Vec<u8>]) -> u64 {
     group

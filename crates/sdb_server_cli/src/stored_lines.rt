@@ -217,12 +217,8 @@ where
         session,
     };
     let (ended, writer) = answer_lines(rt.alloc(), handler, rt.reader(), writer);
-    let SavingWriter {
-        writer: FileWriter { file, .. },
-        fault,
-        ..
-    } = writer;
-    Ok((print_ended(&rt, ended, fault)?, Some(file)))
+    let SavingWriter { writer, fault, .. } = writer;
+    Ok((print_ended(&rt, ended, fault)?, Some(writer.into_file())))
 }
 
 // Creates the pass of the session, and the saver. From now on stored operations are listed.
