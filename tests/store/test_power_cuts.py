@@ -241,7 +241,7 @@ def test_states_with_failing_writes(program, recorder, folder, seed):
 
 
 def test_states_after_a_failed_sync(program, recorder, folder, seed):
-    recording = Recording(program, recorder, folder, seed, 4, 24, fail_sync=42)
+    recording = Recording(program, recorder, folder, seed, 4, 24, fail_sync=46)
     check(recording, 60, seed, starts_of_new=FEW_STARTS)
     check_that_a_failed_sync_is_the_last_call(recording)
 
