@@ -226,7 +226,6 @@ def test_a_closed_file_without_its_log(program, killed, tmp_path):
     assert ended(program, file, ["--check"]) == accepted(OPERATIONS)
 
 
-
 def test_a_check_leaves_the_files(program, killed, tmp_path):
     file = copied(killed, tmp_path)
     before = contents(tmp_path)

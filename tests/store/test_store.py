@@ -229,7 +229,7 @@ def lines_of(data):
 
 
 def served_log(program, file):
-    """Returns the log that the server serves, or None. Then it must write one line, and leave the file unchanged but for the mark."""
+    """Returns the log that the server serves, or None. Then it must write one line, and leave the lines of the file unchanged."""
     before = file.read_bytes()
     command = [program, "--listen", "127.0.0.1:0", "--store", str(file)]
     process = subprocess.Popen(command, stdout=subprocess.PIPE, stderr=subprocess.PIPE, text=True)
