@@ -84,7 +84,7 @@ module _ {S : Type 0} {g : Ghosts S} where
 
 module _ {D : Type 0} {d : disk.Ghosts D} {g : Ghosts (FileStore D d)} where
   -- the file was opened from two files of which the database file alone holds the mark
-  pub record HasMarkAlone (f : UnreadFile (FileStore D d) g) : Type 0 where
+  pub record HasMarkAlone (f : LineFile (FileStore D d) g) : Type 0 where
     pub files : Files D
     pub found : Finds files f.conn
     pub db : Trees
@@ -93,7 +93,7 @@ module _ {D : Type 0} {d : disk.Ghosts D} {g : Ghosts (FileStore D d)} where
 
   -- The file contains exactly these lines, and each crash leaves exactly these and the mark. The database file has the mark
   -- without its log.
-  pub record IsMarkedFileOf (lines : List (List ℕ)) (f : UnreadFile (FileStore D d) g) : Type 0 where
-    pub stores : IsUnreadFileOf lines f
-    pub crash : LeavesMark (unread_state f)
+  pub record IsMarkedFileOf (lines : List (List ℕ)) (f : LineFile (FileStore D d) g) : Type 0 where
+    pub contents : IsFileOf lines f
+    pub crash : LeavesMark (file_state f)
     pub file : HasMarkAlone f

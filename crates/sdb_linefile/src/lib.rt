@@ -1,7 +1,8 @@
 //! A file of lines that survive a crash, over the `sqlite` of the toolchain.
 //!
 //! [`open_or_create`] opens the file, [`UnreadFile::restore`] passes its lines to a [`LineSink`] in
-//! the order of storing, and [`LineFile::store_group`] stores a group of lines in one transaction.
+//! the order of storing, [`mark_file`] marks it as open, and [`LineFile::store_group`] stores a group
+//! of lines in one transaction.
 #![tactic(auto)]
 
 mod contents;
@@ -25,6 +26,7 @@ pub use damage::{Damage, find_damage};
 pub use error::LineFileError;
 pub use files::{FileContents, check_files, named_cause, read_files};
 pub use line_file::{LineFile, UnreadFile};
+pub use mark::mark_file;
 pub use online::read_online_files;
 pub use opening::{adopt, close, open_or_create};
 pub use place::FilePlace;

@@ -7,15 +7,16 @@ ghost use Rattle.sqlite.specs.State.{HasCleanDisk, IsUnchanged};
 ghost use Rattle.sqlite.specs.Held.{state};
 ghost use Rattle.sqlite_value.specs.declared.value.Value.{Value};
 ghost use Rattle.sdb_linefile.specs.LineTable.{line_schema, ContainsLines, ShowsLines, HasMark, ShowsMark};
-ghost use Rattle.sdb_linefile.specs.LineFile.{StoresLines, IsUnreadFileOf, IsMarkedFileOf, unread_state};
+ghost use Rattle.sdb_linefile.specs.LineFile.{StoresLines, IsFileOf, IsMarkedFileOf, file_state as line_state};
 
 use crate::contents::adopt_lines;
 use crate::error::LineFileError;
-use crate::line_file::UnreadFile;
+use crate::line_file::LineFile;
 use crate::opening::settle;
 use sqlite::{Alter, Connection, Error, FileStore, Options, Row};
 use sqlite_disk::Disk;
 use std::alloc::Global;
+use std::hash::{BuildHasher, RandomState};
 
 /// Stores the mark, `open` with the number 0.
 const MARK_TEXT: &str = "INSERT INTO sdb_line (number, line) VALUES (0, x'6F70656E')";
@@ -26,22 +27,47 @@ const UNMARK_TEXT: &str = "DELETE FROM sdb_line WHERE NOT number";
 /// Reads the mark.
 const FIND_TEXT: &str = "SELECT number FROM sdb_line WHERE NOT number";
 
-/// Stores the mark in a file, unless it has it, and copies the log into the database file. So the
-/// database file has the mark without its log.
-pub(crate) fn mark_file<D: Disk + Drop>(
+/// Stores the mark in the database file, which [`close`](crate::close) deletes, before lines are
+/// stored. So a file without its log is refused if it wasn't closed.
+///
+/// # Errors
+///
+/// The [`LineFileError`] of storing or of the seed of the log. The lines are then in the file and its
+/// log, perhaps with the mark.
+///
+/// ```
+/// let mut file = mark_file(&rt, unread.restore(&mut sink)?)?;
+/// file.store_group(lines)?;
+/// ```
+pub fn mark_file<D: Disk + Drop>(
+    rt: &HostRuntime,
+    file: LineFile<FileStore<D>>,
+) -> Result<LineFile<FileStore<D>>, LineFileError>
+    ensures clean { IfOk result (λ marked. HasCleanDisk (line_state marked) → HasCleanDisk (line_state file)) }
+    ensures ok { IfOk result (λ marked. HasCleanDisk (line_state marked) → (lines : List (List ℕ)) →
+        IsFileOf lines file → IsMarkedFileOf lines marked) }
+{
+    let seed = RandomState::new(rt)?.hash_one(&0u8);
+    mark_lines(rt.alloc(), seed, file)
+}
+
+// Stores the mark, unless the file has it, and copies the log into the database file. So the
+// database file has the mark without its log.
+fn mark_lines<D: Disk + Drop>(
     alloc: Global,
     seed: u64,
-    file: UnreadFile<FileStore<D>>,
-) -> Result<UnreadFile<FileStore<D>>, LineFileError>
-    ensures clean { IfOk result (λ marked. HasCleanDisk (unread_state marked) → HasCleanDisk (unread_state file)) }
-    ensures ok { IfOk result (λ marked. HasCleanDisk (unread_state marked) → (lines : List (List ℕ)) →
-        IsUnreadFileOf lines file → IsMarkedFileOf lines marked) }
+    file: LineFile<FileStore<D>>,
+) -> Result<LineFile<FileStore<D>>, LineFileError>
+    ensures clean { IfOk result (λ marked. HasCleanDisk (line_state marked) → HasCleanDisk (line_state file)) }
+    ensures ok { IfOk result (λ marked. HasCleanDisk (line_state marked) → (lines : List (List ℕ)) →
+        IsFileOf lines file → IsMarkedFileOf lines marked) }
 {
-    let mut conn = file.into_connection();
+    let count = file.count;
+    let mut conn = adopt_lines(file.into_connection())?.into_connection();
     put_mark(&mut conn)?;
     let conn = copy_log(alloc, seed, conn)?;
     settle(&conn);
-    adopt_lines(conn)
+    Ok(LineFile::new(conn, count))
 }
 
 /// Returns whether the database has the mark.

@@ -8,20 +8,17 @@ ghost use Rattle.sqlite.specs.Files.{HoldsDatabase};
 ghost use Rattle.sqlite.specs.State.{HasCleanDisk};
 ghost use Rattle.sqlite.specs.Held.{state};
 ghost use Rattle.sdb_linefile.specs.LineTable.{line_schema, empty_schema};
-ghost use Rattle.sdb_linefile.specs.LineFile.{AdoptsLines, FilesContain, HasNoTable, IsLineFileOrEmpty, IsMarkedFileOf, unread_state};
+ghost use Rattle.sdb_linefile.specs.LineFile.{AdoptsLines, FilesContain, HasNoTable, IsLineFileOrEmpty, IsUnreadFileOf, unread_state};
 
 use crate::error::LineFileError;
 use crate::files::{check_files, named_cause};
 use crate::line_file::{LineFile, UnreadFile};
 use crate::line_table::{create_table, is_empty_schema, is_line_schema};
-use crate::mark::{delete_mark, mark_file};
+use crate::mark::delete_mark;
 use sqlite::{Alter, Connection, FileFrom, FileStore, Start};
-use std::hash::{BuildHasher, RandomState};
 
-/// Opens a file of lines, or creates one at the path of a new or empty file.
-///
-/// The open file has a mark in its database file, which [`close`] deletes. So a file without its log
-/// is refused if it wasn't closed.
+/// Opens a file of lines, or creates one at the path of a new or empty file. A file that has lines is
+/// unchanged until [`mark_file`](crate::mark_file).
 ///
 /// `start` is `sqlite::Unknown`, which needs one sync a commit and assumes that a torn write leaves
 /// each byte old or new, or `sqlite::Wary`, which needs two.
@@ -36,7 +33,8 @@ use std::hash::{BuildHasher, RandomState};
 ///
 /// ```
 /// let unread = open_or_create(&rt, "edits.store", Unknown)?;
-/// let mut file = unread.restore(&mut sink)?;
+/// let file = unread.restore(&mut sink)?;
+/// let mut file = mark_file(&rt, file)?;
 /// ```
 pub fn open_or_create<S: Start>(
     rt: &HostRuntime,
@@ -44,9 +42,9 @@ pub fn open_or_create<S: Start>(
     start: S,
 ) -> Result<UnreadFile<FileStore<FileFrom<S>>>, LineFileError>
     ensures ok { IfOk result (λ file. HasCleanDisk (unread_state file) → (lines : List (List ℕ)) →
-        FilesContain lines (image_at S.Start) → IsMarkedFileOf lines file) }
+        FilesContain lines (image_at S.Start) → IsUnreadFileOf lines file) }
     ensures created { IfOk result (λ file. HasCleanDisk (unread_state file) → HasNoTable (image_at S.Start) →
-        IsMarkedFileOf [] file) }
+        IsUnreadFileOf [] file) }
     ensures only { IfOk result (λ file. HasCleanDisk (unread_state file) → IsLineFileOrEmpty (image_at S.Start)) }
 {
     check_files(rt, path)?;
@@ -55,12 +53,10 @@ pub fn open_or_create<S: Start>(
         Err((error, _)) => return Err(named_cause(rt, path, LineFileError::from(error))),
     };
     settle(&conn);
-    let file = match adopt(conn) {
-        Ok(file) => file,
-        Err((error, _)) => return Err(error),
-    };
-    let seed = RandomState::new(rt)?.hash_one(&0u8);
-    mark_file(rt.alloc(), seed, file)
+    match adopt(conn) {
+        Ok(file) => Ok(file),
+        Err((error, _)) => Err(error),
+    }
 }
 
 // States that each crash of an open store leaves what is committed.

@@ -30,7 +30,7 @@ pub enum ParsedArgs {
 
 /// Runs the program with the words of a command line, and returns the exit status. It is 0 for a
 /// complete run, help and version, 1 for a run that failed, and 2 for a refused command line. The
-/// documents are in memory only, and `--store` is refused: [`run_stored`](crate::run_stored) serves
+/// documents are in memory only, and `--store` is refused: [`serve_stored`](crate::serve_stored) serves
 /// those of a store.
 ///
 /// # Errors

@@ -183,6 +183,15 @@ impl LineSink for NoLines {
     }
 }
 
+/// Returns a file that has no lines.
+///
+/// # Errors
+///
+/// The [`LineFileError`] of reading it, or [`LineFileError::Refused`] if it has a line.
+pub fn restore_nothing<S: Alter + Drop>(file: UnreadFile<S>) -> Result<LineFile<S>, LineFileError> {
+    file.restore(&mut NoLines)
+}
+
 /// Stores lines in a file without lines, in one transaction, and prints the numbers of their
 /// documents and entries. Returns the exit status, and the file if they were stored.
 ///
@@ -191,7 +200,7 @@ impl LineSink for NoLines {
 /// The error of printing a line.
 pub fn store_dump<R, S>(
     rt: &R,
-    file: UnreadFile<S>,
+    mut file: LineFile<S>,
     dump: LoadedDump,
 ) -> anyhow::Result<(u8, Option<LineFile<S>>)>
 where
@@ -203,19 +212,8 @@ where
         counts,
         verb,
     } = dump;
-    match store_lines(file, lines) {
-        Ok(file) => Ok((print_counts(rt, verb, counts)?, Some(file))),
-        Err(error) => Ok((print_store_fault(rt, error)?, None)),
-    }
-}
-
-fn store_lines<S: Alter + Drop>(
-    file: UnreadFile<S>,
-    lines: Vec<Vec<u8>>,
-) -> Result<LineFile<S>, LineFileError> {
-    let mut file = file.restore(&mut NoLines)?;
     match file.store_group(lines) {
-        Ok(_) => Ok(file),
-        Err((error, _)) => Err(error),
+        Ok(()) => Ok((print_counts(rt, verb, counts)?, Some(file))),
+        Err((error, _)) => Ok((print_store_fault(rt, error)?, None)),
     }
 }

@@ -87,8 +87,14 @@ pub(crate) fn restore_lines<S: Alter + Drop>(
     }
 }
 
-/// Restores the lines of the file, and returns the file and the backend with its documents.
-pub(crate) fn restore<R, S>(
+/// Restores the lines of the file, and returns the file and the backend with its documents. Nothing
+/// is written.
+///
+/// # Errors
+///
+/// The [`LineFileError`] of reading a line, of a line that isn't the next one of a store, or of an
+/// allocation.
+pub fn restore<R, S>(
     rt: R,
     file: UnreadFile<S>,
 ) -> Result<(LineFile<S>, RestoredBackend<R>), LineFileError>

@@ -1,16 +1,18 @@
 //! What is done with a store file.
+ghost use Rattle.sdb_backend.specs.PassModel.{IsHostOfBackend};
 
 use crate::clients::refuse_closed_input;
 use crate::close::print_audit;
-use crate::load::{LoadedDump, read_dump, store_dump};
+use crate::load::{LoadedDump, read_dump};
 use crate::options::RunMode;
-use crate::store_file::{print_file_fault, restore, restore_lines};
+use crate::store_file::{FileWriter, print_file_fault, restore, restore_lines};
 use crate::stored::serve_file;
 use crate::stored_lines::answer_stored;
 use sdb_backend::Counts;
 use sdb_cli::{STATUS_FAULT, STATUS_OK};
 use sdb_linefile::{FilePlace, LineFile, UnreadFile};
 use sdb_projection::Table;
+use sdb_store::RestoredBackend;
 use sqlite::Alter;
 use std::fs;
 use std::fs::Files;
@@ -76,51 +78,36 @@ where
     }
 }
 
-/// Runs a job on its file, which was opened at this place. Returns the exit status, and the file if
-/// lines were stored in it. A server ends with status 1 if its file is moved, removed or replaced.
+/// Serves clients, or a session of lines, with the documents of a file that was opened at this place.
+/// Returns the exit status and the file. A server ends with status 1 if its file is moved, removed or
+/// replaced.
 ///
 /// # Errors
 ///
 /// As [`serve_at`](crate::serve_at).
-pub fn run_stored<R, S>(
+pub fn serve_stored<R, S>(
     rt: R,
-    file: UnreadFile<S>,
-    place: FilePlace,
-    job: StoreJob,
-) -> anyhow::Result<(u8, Option<LineFile<S>>)>
-where
-    R: AllocGlobal + Input<Reader = StdinLock<'static>> + Print + Eprint,
-    R: Net<Listener = TcpListener, Stream = TcpStream> + Threads + Wait + Clock,
-    R: Copy + Drop + Send + Sync + 'static,
-    S: Alter + Drop + Send + 'static,
-{
-    match job {
-        StoreJob::Serve(mode, table) => serve_stored(rt, file, place, mode, table),
-        StoreJob::Load(dump) => store_dump(&rt, file, dump),
-    }
-}
-
-// Serves clients or a session of lines.
-fn serve_stored<R, S>(
-    rt: R,
-    file: UnreadFile<S>,
+    file: LineFile<S>,
+    restored: RestoredBackend<R>,
     place: FilePlace,
     mode: RunMode,
     table: Table,
-) -> anyhow::Result<(u8, Option<LineFile<S>>)>
+) -> anyhow::Result<(u8, LineFile<S>)>
 where
     R: AllocGlobal + Input<Reader = StdinLock<'static>> + Print + Eprint,
     R: Net<Listener = TcpListener, Stream = TcpStream> + Threads + Wait + Clock,
     R: Copy + Drop + Send + Sync + 'static,
     S: Alter + Drop + Send + 'static,
+    requires { IsHostOfBackend restored.host restored.backend }
 {
+    let writer = FileWriter::new(file, place);
     match mode {
         RunMode::Listen {
             address,
             until,
             options,
-        } => serve_file(rt, file, place, address, until, options, table),
-        _ => answer_stored(rt, file, place, &table),
+        } => serve_file(rt, restored, writer, address, until, options, table),
+        _ => answer_stored(rt, restored, writer, &table),
     }
 }
 

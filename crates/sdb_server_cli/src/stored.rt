@@ -5,11 +5,11 @@ ghost use Rattle.sdb_event_loop.specs.LoopModel.{IsHostOfLoops, loops_backend};
 ghost use Rattle.sdb_store.specs.SaverModel.{saver_pass};
 
 use crate::clients::{ServeOptions, StopCondition, loop_server, print_address, read_to_end};
-use crate::store_file::{FileWriter, print_store_fault, restore};
+use crate::store_file::FileWriter;
 use sdb_backend::{Counts, Host};
 use sdb_cli::{STATUS_FAULT, STATUS_OK};
 use sdb_event_loop::{LoopServer, bind_listener, listen_on_loops};
-use sdb_linefile::{FilePlace, LineFile, UnreadFile};
+use sdb_linefile::LineFile;
 use sdb_progress::{SaveProgress, SaveRecord};
 use sdb_projection::Table;
 use sdb_server::{Clock as MomentClock, SystemClock};
@@ -26,42 +26,38 @@ use std::time::{Clock, Duration};
 // Seconds after which a server that can't end says that it still saves.
 const END_SECONDS: u64 = 5;
 
-/// Restores the documents of the file, serves clients, and saves each stored operation in the file
-/// before a client is sent it. Returns the exit status, and the file if it was served.
+/// Serves clients with the documents of a file, and saves each stored operation in the file before a
+/// client is sent it. Returns the exit status and the file.
 pub(crate) fn serve_file<R, S>(
     rt: R,
-    file: UnreadFile<S>,
-    place: FilePlace,
+    restored: RestoredBackend<R>,
+    writer: FileWriter<S>,
     address: SocketAddr,
     until: StopCondition,
     options: ServeOptions,
     table: Table,
-) -> anyhow::Result<(u8, Option<LineFile<S>>)>
+) -> anyhow::Result<(u8, LineFile<S>)>
 where
     R: AllocGlobal + Input<Reader = StdinLock<'static>> + Print + Eprint,
     R: Net<Listener = TcpListener, Stream = TcpStream> + Threads + Wait + Clock,
     R: Copy + Drop + Send + Sync + 'static,
     S: Alter + Drop + Send + 'static,
+    requires { IsHostOfBackend restored.host restored.backend }
 {
-    let (file, restored) = match restore(rt, file) {
-        Ok(both) => both,
-        Err(error) => return Ok((print_store_fault(&rt, error)?, None)),
-    };
     match bind_listener(&rt, address) {
         Ok(listener) => {
-            let writer = FileWriter::new(file, place);
             let served = Served {
                 listener,
                 until,
                 options,
                 table,
             };
-            let (status, FileWriter { file, .. }) = serve_saved(rt, served, restored, writer)?;
-            Ok((status, Some(file)))
+            let (status, writer) = serve_saved(rt, served, restored, writer)?;
+            Ok((status, writer.into_file()))
         }
         Err(error) => {
             eprintln!(rt; "error: cannot listen on {address}: {error}")?;
-            Ok((STATUS_FAULT, Some(file)))
+            Ok((STATUS_FAULT, writer.into_file()))
         }
     }
 }

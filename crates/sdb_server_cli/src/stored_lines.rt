@@ -3,10 +3,10 @@ ghost use Rattle.std.specs.Prelude.{IfOk, OnOk};
 ghost use Rattle.sdb_backend.specs.PassModel.{IsHostOfBackend, IsPassOfBackend};
 ghost use Rattle.sdb_store.specs.SaverModel.{saver_pass};
 
-use crate::store_file::{FileWriter, print_store_fault, restore};
+use crate::store_file::FileWriter;
 use sdb_backend::{Backend, Host, Pass};
 use sdb_cli::{STATUS_FAULT, STATUS_OK, exit_status};
-use sdb_linefile::{FilePlace, LineFile, UnreadFile};
+use sdb_linefile::LineFile;
 use sdb_lines::{
     CountingReader, CountingWriter, Counts, LineHandler, LineProgress, RunFault, run_lines,
 };
@@ -171,28 +171,25 @@ impl<R: Wait + std::time::Clock + Drop, W: LineWriter, O: Write> Write
     }
 }
 
-/// Restores the documents of the file, and answers the lines of standard input as
-/// [`answer_input`](crate::answer_input) does. Each operation is saved in the file before an answer
-/// reveals it. Returns the exit status, and the file if it was served.
+/// Answers the lines of standard input as [`answer_input`](crate::answer_input) does, with the
+/// documents of a file. Each operation is saved in the file before an answer reveals it. Returns the
+/// exit status and the file.
 ///
 /// # Errors
 ///
 /// [`AllocError`] if an allocation fails before the session, or the error of printing a line.
 pub(crate) fn answer_stored<R, S>(
     rt: R,
-    file: UnreadFile<S>,
-    place: FilePlace,
+    restored: RestoredBackend<R>,
+    writer: FileWriter<S>,
     table: &Table,
-) -> anyhow::Result<(u8, Option<LineFile<S>>)>
+) -> anyhow::Result<(u8, LineFile<S>)>
 where
     R: AllocGlobal + Input<Reader = StdinLock<'static>> + Print + Eprint,
     R: Wait + std::time::Clock + Copy + Drop,
     S: Alter + Drop,
+    requires { IsHostOfBackend restored.host restored.backend }
 {
-    let (file, restored) = match restore(rt, file) {
-        Ok(both) => both,
-        Err(error) => return Ok((print_store_fault(&rt, error)?, None)),
-    };
     let RestoredBackend {
         backend,
         mut host,
@@ -205,7 +202,7 @@ where
         backend: &backend,
         saver,
         number: pass.number(),
-        writer: FileWriter::new(file, place),
+        writer,
         output: io::writer(&rt),
         fault: None,
     };
@@ -218,7 +215,7 @@ where
     };
     let (ended, writer) = answer_lines(rt.alloc(), handler, rt.reader(), writer);
     let SavingWriter { writer, fault, .. } = writer;
-    Ok((print_ended(&rt, ended, fault)?, Some(writer.into_file())))
+    Ok((print_ended(&rt, ended, fault)?, writer.into_file()))
 }
 
 // Creates the pass of the session, and the saver. From now on stored operations are listed.

@@ -2,15 +2,21 @@
 //! lines on standard input and output. With `--store FILE` the documents are in a file.
 #![tactic(auto)]
 
+ghost use Rattle.std.specs.Prelude.{IfOk};
+ghost use Rattle.sdb_backend.specs.PassModel.{IsHostOfBackend};
+
 use sdb_cli::STATUS_FAULT;
 use sdb_linefile::{
-    FilePlace, LineFileError, close, open_copy, open_online_copy, open_or_create, open_sound_copy,
+    FilePlace, LineFile, LineFileError, close, mark_file, open_copy, open_online_copy,
+    open_or_create, open_sound_copy,
 };
 use sdb_server_cli::{
-    LoadedDump, ParsedArgs, RunMode, StorePaths, backup_lines, is_new_path, parse_run, prepare_job,
-    print_closed, print_file_fault, read_copy, recover_lines, run_mode, run_stored, store_dump,
+    LoadedDump, ParsedArgs, RunMode, StoreJob, StorePaths, backup_lines, is_new_path, parse_run,
+    prepare_job, print_closed, print_file_fault, read_copy, recover_lines, restore,
+    restore_nothing, run_mode, serve_stored, store_dump,
 };
-use sqlite::Unknown;
+use sdb_store::RestoredBackend;
+use sqlite::{FileFrom, FileStore, Unknown};
 use std::env;
 use std::process::ExitCode;
 
@@ -29,24 +35,35 @@ fn main(rt: HostRuntime) -> anyhow::Result<ExitCode> {
     if mode.reads_copy() {
         return Ok(ExitCode::from(read_store(&rt, path.as_str(), mode)?));
     }
-    let job = match prepare_job(rt, path.as_str(), mode, table)? {
-        Ok(job) => job,
-        Err(status) => return Ok(ExitCode::from(status)),
+    let status = match prepare_job(rt, path.as_str(), mode, table)? {
+        Ok(StoreJob::Serve(mode, table)) => match restore_store(rt, &rt, path.as_str()) {
+            Ok((file, restored, place)) => {
+                let (status, file) = serve_stored(rt, file, restored, place, mode, table)?;
+                print_closed(&rt, status, close(file))?
+            }
+            Err(error) => print_file_fault(&rt, path.as_str(), error)?,
+        },
+        Ok(StoreJob::Load(dump)) => store_lines(&rt, path.as_str(), dump)?,
+        Err(status) => status,
     };
-    let file = match open_or_create(&rt, path.as_str(), Unknown) {
-        Ok(file) => file,
-        Err(error) => return Ok(ExitCode::from(print_file_fault(&rt, path.as_str(), error)?)),
-    };
-    let place = match FilePlace::find(&rt, path.as_str()) {
-        Ok(place) => place,
-        Err(error) => return Ok(ExitCode::from(print_file_fault(&rt, path.as_str(), error)?)),
-    };
-    let (status, file) = run_stored(rt, file, place, job)?;
-    let closed = match file {
-        Some(file) => close(file),
-        None => Ok(()),
-    };
-    Ok(ExitCode::from(print_closed(&rt, status, closed)?))
+    Ok(ExitCode::from(status))
+}
+
+// A store file that is open for writing.
+type StoreFile = LineFile<FileStore<FileFrom<Unknown>>>;
+
+// Opens a store, restores its documents and marks it. A file that is refused is unchanged.
+fn restore_store<R: AllocGlobal + Drop>(
+    rt: R,
+    host: &HostRuntime,
+    path: &str,
+) -> Result<(StoreFile, RestoredBackend<R>, FilePlace), LineFileError>
+    ensures { IfOk result (λ it. IsHostOfBackend it.1.host it.1.backend) }
+{
+    let file = open_or_create(host, path, Unknown)?;
+    let place = FilePlace::find(host, path)?;
+    let (file, restored) = restore(rt, file)?;
+    Ok((mark_file(host, file)?, restored, place))
 }
 
 // Reads a copy of the store, and returns the exit status. Nothing is created or written.
@@ -85,7 +102,7 @@ fn read_damaged_lines(rt: &HostRuntime, path: &str) -> Result<LoadedDump, LineFi
 
 // Stores lines in a new store, and returns the exit status.
 fn store_lines(rt: &HostRuntime, path: &str, lines: LoadedDump) -> anyhow::Result<u8> {
-    let file = match open_or_create(rt, path, Unknown) {
+    let file = match open_new(rt, path) {
         Ok(file) => file,
         Err(error) => return print_file_fault(rt, path, error),
     };
@@ -95,4 +112,9 @@ fn store_lines(rt: &HostRuntime, path: &str, lines: LoadedDump) -> anyhow::Resul
         None => Ok(()),
     };
     print_closed(rt, status, closed)
+}
+
+// Opens a store that has no lines yet, and marks it.
+fn open_new(rt: &HostRuntime, path: &str) -> Result<StoreFile, LineFileError> {
+    mark_file(rt, restore_nothing(open_or_create(rt, path, Unknown)?)?)
 }
