@@ -83,7 +83,7 @@ impl Document {
         ensures { IfOk result (DocumentAfterStore submission now empty_document) }
     {
         let mut decided = DecidedLog::new(alloc);
-        decided.append(alloc, submission, now, rebased)?;
+        decided.append(submission, now, rebased)?;
         let cache = Cache::new(alloc);
         Ok(Document { decided, cache })
     }
@@ -125,7 +125,6 @@ impl Document {
     // Appends a submission with its rebased content and the new value.
     pub(crate) fn append(
         &mut self,
-        alloc: Global,
         submission: Submission,
         now: Moment,
         rebased: RebaseResult,
@@ -135,7 +134,7 @@ impl Document {
         ensures ok { OnOk result (DocumentAfterStore submission now self.old self.new) }
         ensures err { OnErr result (self.new ≡ self.old) }
     {
-        self.decided.append(alloc, submission, now, rebased)
+        self.decided.append(submission, now, rebased)
     }
 
     // Returns the document at a version, replayed from the nearest cached snapshot. The result is

@@ -253,7 +253,7 @@ fn append_to_document(
     ensures err { OnErr result (document_or_empty document.new ≡ document_or_empty document.old) }
 {
     match document {
-        Some(document) => document.append(alloc, submission, now, rebased),
+        Some(document) => document.append(submission, now, rebased),
         None => {
             let first = Document::with_first_entry(alloc, submission, now, rebased)?;
             *document = Some(try_box(alloc, first)?);

@@ -2,10 +2,9 @@ mod RebaseLemmas
 mod RebasedContentLemmas
 mod MadeEntryLemmas
 mod RefusalCauseLemmas
-mod IndexUseLemmas
+mod IndexUpdates
 pub mod LogGrowth
 pub mod VersionSearch
 pub mod IndexLemmas
 pub mod AppendLemmas
 pub mod DecidedLogLemmas
-pub mod NumberMapLemmas

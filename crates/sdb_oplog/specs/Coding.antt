@@ -7,7 +7,7 @@ use Rattle.sdb_value.specs.Value.{Value}
 use Rattle.sdb_value.specs.Coding.{value_code, text_code}
 use Rattle.sdb_component.specs.Plain.{PlainComponent}
 use Rattle.sdb_component.specs.Coding.{op_code}
-use Rattle.sdb_oplog.specs.Plain.{PlainContent, create, delete, edit, PlainSubmission, PlainEntry, PlainReservedAppend}
+use Rattle.sdb_oplog.specs.Plain.{PlainContent, create, delete, edit, PlainSubmission, PlainEntry}
 
 abbrev Cases : Type 0
 Cases = Value ⊎ (Unit {0} ⊎ List PlainComponent)
@@ -52,9 +52,3 @@ entry_code =
 
 abbrev pub log_code : Coded (List PlainEntry)
 log_code = coded_list entry_code
-
-abbrev pub reserved_append_code : Coded PlainReservedAppend
-reserved_append_code =
-    code_by (List PlainEntry × PlainSubmission) (coded× log_code submission_code) (λ p. (p.log, p.submission))
-    (λ p. record { log = p.0; submission = p.1 })
-    (λ _. refl)

@@ -1,8 +1,7 @@
 -- The invariant of a log.
-use Rattle.std.specs.Prelude.{◌≡◌, ℕ, ◌≤◌, ◌<◌, List, [], ◌∷◌, ◌++◌, length, true, Option, None, unwrap_or}
+use Rattle.std.specs.Prelude.{◌≡◌, ℕ, ◌≤◌, ◌<◌, List, [], ◌∷◌, ◌++◌, length, true, None}
 use Rattle.std.specs.Option.{is_some}
-use Rattle.sdb_oplog.specs.Plain.{PlainContent, PlainEntry, PlainReservedAppend}
-use Rattle.sdb_oplog.specs.Decide.{new_entry}
+use Rattle.sdb_oplog.specs.Plain.{PlainEntry}
 use Rattle.sdb_oplog.specs.Snap.{are_identifiers_new, snap, stored_at}
 use Rattle.sdb_oplog.specs.Moments.{last_moment, MomentsOrderedFrom}
 use Rattle.sdb_oplog.specs.IndexModel.{indexed_version}
@@ -23,7 +22,3 @@ pub record CanAppend (log : List PlainEntry) (entry : PlainEntry) : Type 0 where
   pub entry_applies : is_some (snap (log ++ entry ∷ [])) ≡ true
   pub moment_ordered : last_moment log ≤ entry.moment
   pub has_room : length log < 9007199254740991
-
--- the entry of the submission, stored now with this content or with the submitted one
-abbrev pub appended_entry : PlainReservedAppend → ℕ → Option PlainContent → PlainEntry
-appended_entry p now content = new_entry p.log p.submission now (unwrap_or content p.submission.content)

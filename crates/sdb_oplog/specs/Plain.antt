@@ -23,8 +23,3 @@ pub record PlainEntry : Type 0 where
   pub moment : ℕ
   pub content : PlainContent
   pub arrived : PlainSubmission
-
--- a log and a submission for which space is reserved
-pub record PlainReservedAppend : Type 0 where
-  pub log : List PlainEntry
-  pub submission : PlainSubmission

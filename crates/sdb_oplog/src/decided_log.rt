@@ -11,13 +11,12 @@ ghost use Rattle.sdb_oplog.specs.declared.decided_log.Rejection.TheVariants.{Ref
 use crate::codes::Code;
 use crate::content::{Content, rebase};
 use crate::document::freeze_document;
-use crate::entry::Submission;
-use crate::log::{Log, ReserveError};
+use crate::entry::{Entry, Submission};
+use crate::log::Log;
 use crate::moment::Moment;
 use sdb_value::{Json, MAX};
 use std::alloc::{AllocError, Global};
 use std::marker::Model;
-use std::mem;
 
 /// The reason why a submission isn't stored.
 #[derive(Clone, Copy, Debug, PartialEq, Eq, Drop)]
@@ -159,7 +158,7 @@ impl DecidedLog {
         self.check(&submission)?;
         let rebased = self.rebase(alloc, &submission)?;
         let v = self.log.len();
-        self.append(alloc, submission, now, rebased)?;
+        self.append(submission, now, rebased)?;
         Ok(v)
     }
 
@@ -219,7 +218,6 @@ impl DecidedLog {
     /// [`AllocError`] if an allocation fails. The log is then unchanged.
     pub fn append(
         &mut self,
-        alloc: Global,
         submission: Submission,
         now: Moment,
         rebased: RebaseResult,
@@ -231,16 +229,11 @@ impl DecidedLog {
         }) }
         ensures err { OnErr result (self.new ≡ self.old) }
     {
-        match mem::replace(&mut self.log, Log::new(alloc)).reserve_append(submission) {
-            Ok(reserved) => {
-                self.log = reserved.commit(now, rebased.content);
-                self.document = rebased.document;
-                Ok(())
-            }
-            Err(ReserveError { log, error }) => {
-                self.log = log;
-                Err(error)
-            }
-        }
+        let version = self.log.len();
+        let moment = now.max(self.log.last_moment());
+        let entry = Entry::new(version, moment, rebased.content, submission);
+        self.log.push(entry)?;
+        self.document = rebased.document;
+        Ok(())
     }
 }

@@ -1,15 +1,13 @@
 //! The log of a document.
-ghost use Rattle.std.specs.Prelude.{◌≡◌, ◌<◌, ◌≤◌, ℕ, List, [], ◌∷◌, ◌++◌, length, vec_len, vec_capacity, bytes_eq, nat_eq, ◌&&◌, if◌then◌else◌, take, drop, slice_get, true, Some, None, OnOk, OnErr, IfOk, IfErr, option_map, is_some, unwrap_or, IsTrue, ◌↔◌, ◌≢◌};
+ghost use Rattle.std.specs.Prelude.{◌≡◌, ◌≤◌, [], ◌∷◌, ◌++◌, length, take, drop, slice_get, true, Some, OnOk, OnErr, IfOk, IfErr, option_map, is_some, IsTrue, ◌↔◌};
 ghost use Rattle.sdb_value.specs.View.{value_of};
 ghost use Rattle.sdb_oplog.specs.Decide.{missed_entries};
 ghost use Rattle.sdb_oplog.specs.Snap.{snap, stored_at, are_identifiers_new};
 ghost use Rattle.sdb_oplog.specs.Moments.{last_moment, version_at, MomentsOrderedFrom};
-ghost use Rattle.sdb_oplog.specs.LogInvariant.{CanAppend, appended_entry};
-ghost use Rattle.sdb_oplog.specs.IndexModel.{indexed_version, HasReserved, SourceHasEntries};
+ghost use Rattle.sdb_oplog.specs.LogInvariant.{CanAppend};
 ghost use Rattle.sdb_oplog.specs.declared.codes.Code.TheVariants.{E10};
 
 use crate::codes::Code;
-use crate::content::Content;
 use crate::entry::{Entry, Submission};
 use crate::index::Index;
 use crate::moment::Moment;
@@ -48,40 +46,6 @@ impl Model for Log {
     ghost view = { λ l. l.entries.items };
 
     ghost invariant = { λ l. LogInvariant l.entries.items l.index × AllSourcesHaveEntries l.index };
-}
-
-/// A log and a submission for which space is reserved, so that appending it doesn't allocate.
-#[derive(Drop)]
-pub(crate) struct ReservedAppend {
-    alloc: Global,
-    entries: Vec<Entry>,
-    index: Index,
-    submission: Submission,
-}
-
-impl Model for ReservedAppend {
-    ghost use Rattle.std.specs.Prelude.{◌<◌, vec_len, vec_capacity};
-    ghost use Rattle.sdb_oplog.specs.Plain.{PlainReservedAppend};
-    ghost use Rattle.sdb_oplog.specs.Coding.{reserved_append_code};
-
-    ghost Value = { PlainReservedAppend };
-
-    ghost coded = { reserved_append_code };
-
-    ghost use Rattle.sdb_oplog.specs.LogInvariant.{LogInvariant};
-    ghost use Rattle.sdb_oplog.specs.IndexModel.{HasReserved, OtherSourcesHaveEntries};
-
-    ghost view = { λ p. record { log = p.entries.items; submission = p.submission } };
-
-    ghost invariant = { λ p. LogInvariant p.entries.items p.index × (vec_len p.entries < vec_capacity p.entries) ×
-        HasReserved p.index p.submission.src × OtherSourcesHaveEntries p.index p.submission.src };
-}
-
-/// An unchanged log in which no space could be reserved, and the error.
-#[derive(Drop)]
-pub(crate) struct ReserveError {
-    pub log: Log,
-    pub error: AllocError,
 }
 
 impl Log {
@@ -164,6 +128,16 @@ impl Log {
         low as u64
     }
 
+    /// Returns the moment of the last entry, or the first moment for an empty log.
+    pub(crate) fn last_moment(&self) -> Moment
+        ensures { result ≡ last_moment self.now }
+    {
+        match self.entries.last() {
+            Some(entry) => entry.moment(),
+            None => Moment::zero(),
+        }
+    }
+
     /// Appends an entry to the log.
     ///
     /// # Errors
@@ -174,49 +148,15 @@ impl Log {
         ensures ok { OnOk result (self.new ≡ self.old ++ entry ∷ []) }
         ensures err { OnErr result (self.new ≡ self.old) }
     {
-        reserve(
-            self.alloc,
-            &mut self.entries,
-            &mut self.index,
-            entry.arrived().src(),
-        )?;
-        append(&mut self.entries, &mut self.index, entry);
+        let at = self.len();
+        self.entries.reserve(1)?;
+        let arrived = entry.arrived();
+        self.index
+            .insert(self.alloc, arrived.src(), arrived.seq(), at)?;
+        let Ok(()) = self.entries.push(entry) else {
+            unreachable!();
+        };
         Ok(())
-    }
-
-    /// Reserves space for the entry of a submission, so that appending it can't fail.
-    ///
-    /// # Errors
-    ///
-    /// [`ReserveError`] with the unchanged log if an allocation fails.
-    pub(crate) fn reserve_append(
-        self,
-        submission: Submission,
-    ) -> Result<ReservedAppend, ReserveError>
-        ensures ok { IfOk result (λ p. p ≡ record { log = self; submission = submission }) }
-        ensures err { IfErr result (λ u. u.log ≡ self) }
-    {
-        let Log {
-            alloc,
-            mut entries,
-            mut index,
-        } = self;
-        match reserve(alloc, &mut entries, &mut index, submission.src()) {
-            Ok(()) => Ok(ReservedAppend {
-                alloc,
-                entries,
-                index,
-                submission,
-            }),
-            Err(error) => Err(ReserveError {
-                log: Log {
-                    alloc,
-                    entries,
-                    index,
-                },
-                error,
-            }),
-        }
     }
 
     /// Returns the document at a version, by applying the entries before it.
@@ -257,77 +197,4 @@ impl Log {
         }
         Ok(replayed)
     }
-}
-
-impl ReservedAppend {
-    /// Appends the submission with this content, or with the submitted one if it is `None`. Its
-    /// moment is `now`, or that of the entry before it if that is later.
-    pub(crate) fn commit(self, now: Moment, content: Option<Content>) -> Log
-        requires first { stored_at self.submission.src self.submission.seq self.log ≡ None }
-        requires alive { is_some (snap (self.log ++ appended_entry self now content ∷ [])) ≡ true }
-        requires bound { length self.log < MAX }
-        ensures { result ≡ self.log ++ appended_entry self now content ∷ [] }
-    {
-        let ReservedAppend {
-            alloc,
-            mut entries,
-            mut index,
-            submission,
-        } = self;
-        let version = entries.as_slice().len() as u64;
-        let moment = now.max(last_moment(entries.as_slice()));
-        let entry = Entry::new(version, moment, content, submission);
-        append(&mut entries, &mut index, entry);
-        Log {
-            alloc,
-            entries,
-            index,
-        }
-    }
-}
-
-// Returns the moment of the last entry, or the first moment for an empty log.
-fn last_moment(entries: &[Entry]) -> Moment
-    ensures { result ≡ last_moment entries.now }
-{
-    match entries.last() {
-        Some(entry) => entry.moment(),
-        None => Moment::zero(),
-    }
-}
-
-// Reserves space for one more entry of the source.
-fn reserve(
-    alloc: Global,
-    entries: &mut Vec<Entry>,
-    index: &mut Index,
-    src: &str,
-) -> Result<(), AllocError>
-    ensures entries { entries.new.items ≡ entries.old.items }
-    ensures versions { (s : List ℕ) (n : ℕ) → indexed_version index.new s n ≡ indexed_version index.old s n }
-    ensures capacity { OnOk result (vec_len entries.new < vec_capacity entries.new) }
-    ensures source { OnOk result (HasReserved index.new src.now) }
-    ensures has_entries { (s : List ℕ) → s ≢ src.now → SourceHasEntries index.old s → SourceHasEntries index.new s }
-    ensures err { OnErr result ((s : List ℕ) → SourceHasEntries index.old s → SourceHasEntries index.new s) }
-{
-    entries.reserve(1)?;
-    index.reserve(alloc, src)
-}
-
-// Appends an entry, for which space is reserved.
-fn append(entries: &mut Vec<Entry>, index: &mut Index, entry: Entry)
-    requires capacity { vec_len entries.old < vec_capacity entries.old }
-    requires source { HasReserved index.old entry.arrived.src }
-    ensures entries { entries.new.items ≡ entries.old.items ++ entry ∷ [] }
-    ensures versions { (s : List ℕ) (n : ℕ) → indexed_version index.new s n
-        ≡ (if nat_eq entry.arrived.seq n && bytes_eq entry.arrived.src s
-        then Some (length entries.old.items) else indexed_version index.old s n) }
-    ensures has_entries { (s : List ℕ) → s ≢ entry.arrived.src → SourceHasEntries index.old s
-        → SourceHasEntries index.new s }
-{
-    let at = entries.len() as u64;
-    index.insert(entry.arrived().src(), entry.arrived().seq(), at);
-    let Ok(()) = entries.push(entry) else {
-        unreachable!();
-    };
 }

@@ -1,21 +1,21 @@
-use Rattle.std.proofs.Common.{◌≡◌, ◌++◌, ◌∷◌, ◌≤◌, [], length, sym, subst, ap, ◌∙◌, arith}
-use Rattle.std.specs.Option.{is_some}
-use Rattle.sdb_oplog.specs.Moments.{last_moment}
-use Rattle.sdb_oplog.specs.Snap.{snap, stored_at}
-use Rattle.sdb_oplog.proofs.AppendLemmas.{same_places, one_more, put_used}
+use Rattle.std.proofs.Common.{◌≡◌, ◌++◌, ◌∷◌, ◌&&◌, [], length, cond, Some, bytes_eq, nat_eq, sym, subst, ap, ◌∙◌}
+use Rattle.sdb_oplog.specs.IndexModel.{indexed_version}
+use Rattle.sdb_oplog.specs.LogInvariant.{CanAppend}
+use Rattle.sdb_oplog.proofs.AppendLemmas.{one_more}
 use Rattle.sdb_oplog.proofs.log.Log.push.Goals as goal
 
 pub invariant_of-self-2 : goal.invariant_of-self-2
 invariant_of-self-2 c =
-    let es = c.reserve.new.entries.items in
+    let es = c.self.inside.entries.items in
+    let x = c.self.inside.index in
     let e = c.args.entry in
-    let same : es ≡ c.args.self.now = c.reserve.ensures.entries ∙ c.self.view_is in (
-      one_more es c.append.new.entries.items e c.reserve.new.index c.append.new.index c.append.ensures.entries
-          (same_places c.self.inside.entries.items es c.self.inside.index c.reserve.new.index c.reserve.ensures.entries c.reserve.ensures.versions c.self.invariant.0)
-          (ap (stored_at e.arrived.src e.arrived.seq) same ∙ c.requires.is_new)
-          (ap (λ l. is_some (snap (l ++ e ∷ []))) same ∙ c.requires.entry_applies)
-          (subst (λ l. last_moment l ≤ e.moment) (sym same) c.requires.moment_ordered)
-          (let n : length es ≡ length c.args.self.now = ap length same in omega (arith, n, c.requires.has_room))
-          c.append.ensures.versions,
-      put_used c.reserve.new.index c.append.new.index e.arrived.src e.arrived.seq (length es) (λ s n. c.reserve.ensures.has_entries s (λ k. n (k ∙ c.src.ensures ∙ ap (λ a. a.src) c.arrived.ensures)) (c.self.invariant.1 s)) c.append.ensures.has_entries c.append.ensures.versions,
+    let src : c.src.result.now ≡ e.arrived.src = c.src.ensures ∙ ap (λ a. a.src) c.arrived-arrived.ensures in
+    let seq : c.seq.result ≡ e.arrived.seq = c.seq.ensures ∙ ap (λ a. a.seq) c.arrived-arrived.ensures in
+    let at : c.len-at.result ≡ length es = c.len-at.ensures.len ∙ ap length (sym c.self.view_is) in (
+      one_more es c.push.new.self.items e x c.insert.new.self (c.in-Ok.ensures.items ∙ ap (λ l. l ++ e ∷ []) c.reserve.ensures.items) c.self.invariant.0
+          (subst (λ l. CanAppend l e) (sym c.self.view_is) c.requires)
+          (λ s n. c.in_ok-insert.ensures.ok s n ∙ ap (λ t. cond (nat_eq c.seq.result n && bytes_eq t s) (Some c.len-at.result) (indexed_version x s n)) src
+          ∙ ap (λ k. cond (nat_eq k n && bytes_eq e.arrived.src s) (Some c.len-at.result) (indexed_version x s n)) seq
+          ∙ ap (λ v. cond (nat_eq e.arrived.seq n && bytes_eq e.arrived.src s) (Some v) (indexed_version x s n)) at),
+      c.in_ok-insert.ensures.has_entries c.self.invariant.1,
     )
