@@ -9,9 +9,11 @@ mod shard;
 mod shard_commits;
 mod shard_queues;
 mod shard_reads;
+mod shard_refusals;
 mod work;
 
 pub use document::Reply;
 pub use replay_base::ReplayBase;
 pub use shard::{CommitDecision, FetchResult, Outcome, Shard, SubscribeResult};
+pub use shard_refusals::MAX_PAIRS_LOCKED;
 pub use work::{Attempt, Look, LookPart, Work};

@@ -172,12 +172,19 @@ impl Shard {
     }
 
     /// Decides as [`commit_last`](Shard::commit_last) does. It copies and transforms against only
-    /// the entries that were stored after the look of the work.
+    /// the entries that were stored after the look of the work. A rebase of more than
+    /// [`MAX_PAIRS_LOCKED`] pairs of components is `Refused(E10)`, so that work under a lock is
+    /// bounded.
+    ///
+    /// [`MAX_PAIRS_LOCKED`]: crate::MAX_PAIRS_LOCKED
     pub fn commit_newer(&mut self, key: &Key, work: Work, now: Moment) -> Reply
         requires { IsLook (log_at self.old key.now) work }
         ensures { StateAfterDecision (plain_key key.now) work.submission now (plain_reply result)
             (state_of self.old) (state_of self.new) }
     {
+        if self.is_too_long(key, &work) {
+            return Reply::from(self.reject_long(key, work.submission()));
+        }
         let Ok(newer) = self.look_after(key, work.submission(), work.missed().len()) else {
             return self.commit_now(key, work.submission(), now);
         };
@@ -250,7 +257,7 @@ impl Shard {
     }
 
     // Checks what needs no rebase: duplicate, full log, version too new.
-    fn check(&self, key: &Key, submission: &Submission) -> Result<(), Rejection>
+    pub(crate) fn check(&self, key: &Key, submission: &Submission) -> Result<(), Rejection>
         ensures ok { OnOk result (CanStore (log_at self.now key.now) submission.now) }
         ensures err { (t : ℕ) →
             IfErr result (IsRejectedAs (log_at self.now key.now) submission.now t) }
@@ -262,7 +269,7 @@ impl Shard {
     }
 
     // Rebases the submission on the current log, and applies it to the current document.
-    fn rebase(&self, key: &Key, submission: &Submission) -> Result<RebaseResult, Code>
+    pub(crate) fn rebase(&self, key: &Key, submission: &Submission) -> Result<RebaseResult, Code>
         requires { CanStore (log_at self.now key.now) submission.now }
         ensures ok { IfOk result (λ r. WillStore (log_at self.now key.now) submission.now
             r.content (option_map value_of r.document)) }
@@ -290,7 +297,7 @@ impl Shard {
     }
 
     // Returns the submission's missed entries.
-    fn missed_entries(&self, key: &Key, submission: &Submission) -> &[Entry]
+    pub(crate) fn missed_entries(&self, key: &Key, submission: &Submission) -> &[Entry]
         ensures { result.now ≡ missed_entries (log_at self.now key.now) submission.now }
     {
         match self.find(key) {

@@ -11,8 +11,8 @@ commit_current-requires c =
     let a = c.args.work in
     let n = length a.look.missed in
     let newer : plain_look c.in-Ok.newer ≡ look_after n (look_at log a.submission) =
-    c.in-Ok.ensures.look ∙ ap (λ es. look_after (length es) (look_at log c.submission.result.now)) c.missed.ensures
-    ∙ ap (λ s. look_after n (look_at log s)) c.submission.ensures in
+    c.in-Ok.ensures.look ∙ ap (λ es. look_after (length es) (look_at log c.submission-2.result.now)) c.missed.ensures
+    ∙ ap (λ s. look_after n (look_at log s)) c.submission-2.ensures in
     let made = c.in-Ok-extend.ensures.ok in
     ap (λ w. w.look) made
     ∙ ap (look_before a.look.missed) newer
