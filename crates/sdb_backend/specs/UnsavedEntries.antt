@@ -1,5 +1,5 @@
 -- The entries of a shard that are to be saved, by key and version.
-use Rattle.std.specs.Prelude.{◌≡◌, ◌⊎◌, ℕ, List, [], ◌∷◌, ◌++◌, map, Option, Some, None, option_map, Vec}
+use Rattle.std.specs.Prelude.{◌≡◌, ◌<◌, ℕ, List, [], ◌∷◌, ◌++◌, map, Option, Some, None, IfSome, option_map, Vec, vec_len, vec_capacity}
 use Rattle.std.specs.Global.{Global}
 use Rattle.sdb_oplog.specs.Decide.{PlainReply, stored, repeated, refused}
 use Rattle.sdb_oplog.specs.Keys.{PlainKey, plain_key}
@@ -10,6 +10,7 @@ use Rattle.sdb_backend.specs.PassModel.{PassHasSeenShard}
 use Rattle.sdb_backend.specs.declared.pass.Pass.{Pass}
 use Rattle.sdb_backend.specs.declared.shard_value.Held.{Held}
 use Rattle.sdb_backend.specs.declared.unsaved.EntryAt.{EntryAt}
+use Rattle.sdb_oplog.specs.declared.keys.Key.{Key}
 
 -- the place of an entry: the key of its document, and its version
 pub record PlainEntryAt : Type 0 where
@@ -30,12 +31,17 @@ plain_places = option_map (λ (v : Vec EntryAt Global). map plain_entry_at v.ite
 abbrev pub unsaved_of : Held → UnsavedList
 unsaved_of h = plain_places h.unsaved
 
--- the entry at a version is the last of the list, or there is none: entries weren't listed, or an allocation failed
+-- the entry at a version is added to the list, if entries are listed
 abbrev pub ListsEntry : PlainKey → ℕ → UnsavedList → UnsavedList → Type 0
-ListsEntry k v old new =
-    (new ≡ None)
-    ⊎ ((before : List PlainEntryAt) × (old ≡ Some before)
-    × (new ≡ Some (before ++ record { key = k; version = v } ∷ [])))
+ListsEntry k v old new = new ≡ option_map (λ before. before ++ record { key = k; version = v } ∷ []) old
+
+-- an entry can be added without an allocation, if there is a place for it
+abbrev pub HasRoom : Option Key → Option (Vec EntryAt Global) → Type 0
+HasRoom place list = IfSome place (λ _. IfSome list (λ entries. vec_len entries < vec_capacity entries))
+
+-- the place is for an entry of this key, and there is one if entries are listed
+abbrev pub IsPlaceFor : PlainKey → Option Key → Option (Vec EntryAt Global) → Type 0
+IsPlaceFor k place list = IfSome place (λ key. plain_key key ≡ k) × (place ≡ None → list ≡ None)
 
 -- a stored submission lists its entry, and any other changes nothing
 abbrev pub UnsavedAfterReply : PlainKey → PlainReply → UnsavedList → UnsavedList → Type 0

@@ -11,7 +11,7 @@ ghost use Rattle.sdb_backend.specs.LooksInParts.{IsLookPartOrError, CommitsIfCur
 ghost use Rattle.sdb_backend.specs.UnsavedEntries.{unsaved_of, UnsavedAfterReply};
 
 use crate::shard_value::Held;
-use sdb_desk::{CommitDecision, Look, LookPart, Reply, Work};
+use sdb_desk::{CommitDecision, Look, LookPart, Outcome, Reply, Work};
 use sdb_growlock::Job;
 use sdb_oplog::{Key, Moment, Submission};
 use std::alloc::AllocError;
@@ -63,7 +63,8 @@ impl<'a> Job<Held> for LookPartJob<'a> {
     }
 }
 
-// Decides the submission of a work if the log hasn't grown since its look.
+// Decides the submission of a work if the log hasn't grown since its look. E10 if the list of
+// unsaved entries has no place for its entry.
 pub(crate) struct CommitJob<'a> {
     pub(crate) key: &'a Key,
     pub(crate) work: &'a Work,
@@ -83,8 +84,15 @@ impl<'a> Job<Held> for CommitJob<'a> {
         if held.shard.version(key) != work.version() {
             return None;
         }
+        let place = match held.reserve_place(key) {
+            Ok(place) => place,
+            Err(error) => {
+                let rejection = held.shard.reject_work(key, work, error);
+                return Some(CommitDecision::Reply(Outcome::Decided(Reply::from(rejection))));
+            }
+        };
         let decision = held.shard.decide(key, work, now);
-        held.list_decision(key, work, &decision);
+        held.list_decision(place, work, &decision);
         Some(decision)
     }
 }
@@ -110,8 +118,12 @@ impl<'a> Job<Held> for CommitNowJob<'a> {
             submission,
             now,
         } = self;
+        let place = match held.reserve_place(key) {
+            Ok(place) => place,
+            Err(error) => return Reply::from(held.shard.reject_now(key, submission, error)),
+        };
         let reply = held.shard.commit_now(key, submission, now);
-        held.list_reply(key, &reply);
+        held.list_reply(place, &reply);
         reply
     }
 }
@@ -134,8 +146,12 @@ impl<'a> Job<Held> for CommitLastJob<'a> {
 
     fn run(self, _number: u64, held: &mut Held) -> Reply {
         let Self { key, work, now } = self;
+        let place = match held.reserve_place(key) {
+            Ok(place) => place,
+            Err(error) => return Reply::from(held.shard.reject_now(key, work.submission(), error)),
+        };
         let reply = held.shard.commit_newer(key, work, now);
-        held.list_reply(key, &reply);
+        held.list_reply(place, &reply);
         reply
     }
 }

@@ -78,8 +78,8 @@ impl<R: Wait> Backend<R> {
     }
 
     /// Returns the entries of a shard, 0 to 7, that were stored since the last call, in the order of
-    /// storing. Returns `None` if they aren't [listed](Backend::list_unsaved), or if an allocation for
-    /// the list has failed. Waits until the lock is free.
+    /// storing. Returns `None` if they aren't [listed](Backend::list_unsaved). Waits until the lock is
+    /// free.
     pub fn take_unsaved(&self, pass: &mut Pass, shard: usize) -> Option<Vec<EntryAt>>
         requires pass { IsPassOfBackend pass.old self.now }
         requires shard { shard < 8 }

@@ -15,7 +15,7 @@ use std::alloc::Global;
 pub struct Held {
     pub shard: Shard,
     // The entries that were stored since they were taken last, in the order of storing. `None` if
-    // they aren't listed, or if an allocation for the list has failed.
+    // they aren't listed.
     pub(crate) unsaved: Option<Vec<EntryAt>>,
 }
 

@@ -34,7 +34,7 @@ pub enum SaveFault {
     /// The journal was moved, removed or replaced.
     #[error("the file was moved, removed or replaced")]
     Moved,
-    /// The list of stored entries isn't complete.
+    /// The backend doesn't list stored entries, or a listed one doesn't exist.
     #[error("the list of stored entries isn't complete")]
     Incomplete,
     /// No number is left for a session.
@@ -120,8 +120,8 @@ impl Saver {
     /// # Errors
     ///
     /// [`SaveFault::Retry`], [`SaveFault::Closed`] or [`SaveFault::Moved`] if the writer fails,
-    /// [`SaveFault::OutOfMemory`] if an allocation fails, [`SaveFault::Incomplete`] if the backend's list
-    /// isn't complete, and [`SaveFault::OutOfNumbers`] if a journal can't have the number.
+    /// [`SaveFault::OutOfMemory`] if an allocation fails, [`SaveFault::Incomplete`] if the backend doesn't
+    /// list its entries, and [`SaveFault::OutOfNumbers`] if a journal can't have the number.
     pub fn save_round<R: Wait + Drop, W: LineWriter>(
         &mut self,
         backend: &Backend<R>,
