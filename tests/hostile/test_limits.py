@@ -1,4 +1,4 @@
-"""Descriptors run out, a read of an older version after an absent one, and an input that ends at a start."""
+"""Descriptors run out, half-open connections, a read of an older version after an absent one, and an input that ends at a start."""
 import resource
 import socket
 import subprocess
@@ -16,6 +16,8 @@ SPAN = 8192  # entries between two kept snapshots of a log
 BATCH = 400  # submissions that are sent at once
 READ = 60  # seconds in which a read must end
 STARTS = 30
+CLIENTS, OTHERS = 8, 64  # clients, and connections beside them
+HALF_OPEN = 3 * (CLIENTS + OTHERS)
 
 
 def edit(seq, **content):
@@ -47,6 +49,22 @@ def test_descriptors_run_out(program, tmp_path, has_store):
             assert late.ask({"a": "f", "c": "b", "d": "1"})["data"] == {"v": 2, "data": {"n": 1}}
         server.process.stdin.close()
         assert server.process.wait(timeout=END) == 0
+
+
+@pytest.mark.parametrize("loops", ["1", "3"])
+def test_half_open_connections(program, loops):
+    """They take all the room, and go on coming. New clients are served in a second all the same."""
+    with Server(program, "--clients", str(CLIENTS), "--loops", loops) as server, server.enter() as client:
+        halves = []
+        for _ in range(3):
+            halves += [socket.create_connection(server.address, END) for _ in range(HALF_OPEN)]
+            start = time.monotonic()
+            with Connection(server.address, END).enter() as late:
+                assert late.ask({"a": "f", "c": "b", "d": "1"})["data"]["v"] == 0
+            assert time.monotonic() - start < 1
+            assert client.ask({"a": "f", "c": "b", "d": "1"})["data"]["v"] == 0
+        for it in halves:
+            it.close()
 
 
 def store_many(connection, first, last):

@@ -18,6 +18,10 @@ pub(crate) struct Acceptor {
     // Whether a connection may wait at the listener, and the second before which none is accepted.
     can_accept: bool,
     accept_after: u64,
+    // The number of connections that were accepted, and the second in which the loop last let the
+    // next one accept for want of a handshake to remove.
+    accepted: u64,
+    passed_turn: u64,
 }
 
 impl Acceptor {
@@ -27,6 +31,8 @@ impl Acceptor {
             listener,
             can_accept: true,
             accept_after: 0,
+            accepted: 0,
+            passed_turn: 0,
         }
     }
 
@@ -38,6 +44,17 @@ impl Acceptor {
     // Returns whether the loop accepts a connection in this second.
     fn is_due(&self, second: u64) -> bool {
         self.can_accept && self.accept_after <= second
+    }
+
+    // Returns the number of the next connection.
+    fn next_order(&mut self) -> u64 {
+        self.accepted = self.accepted.saturating_add(1);
+        self.accepted
+    }
+
+    // Returns whether the loop lets the next one accept in this second, which it does once.
+    fn passes_turn(&mut self, second: u64) -> bool {
+        std::mem::replace(&mut self.passed_turn, second) != second
     }
 
     // Accepts none until the next event, or after a failure until the next second. Returns whether
@@ -63,11 +80,11 @@ impl<R: Net + Wait + Clock + Eprint + Copy + Drop, P: Policy + Drop, B: PassBran
     P,
     B,
 > {
-    /// Accepts a connection if one waits, if it is the loop's turn, and if there is room. Returns
-    /// whether it accepted one.
+    /// Accepts a connection if one waits, if it is the loop's turn, and if there is room, which the
+    /// oldest handshake gives. Returns whether it accepted one.
     pub(crate) fn accept_next(&mut self, registry: &Registry) -> bool {
         let is_due = self.acceptor.is_due(self.clock.second());
-        if !is_due || !self.context.loops().may_accept(self.number) {
+        if !is_due || !self.context.loops().flags.may_accept(self.number) || !self.make_room() {
             return false;
         }
         match self.acceptor.listener.accept() {
@@ -81,6 +98,23 @@ impl<R: Net + Wait + Clock + Eprint + Copy + Drop, P: Policy + Drop, B: PassBran
                 false
             }
         }
+    }
+
+    // Returns whether there is room for a connection. Without room, the loop removes its oldest
+    // handshake. A loop without one lets the next loop accept, at most once a second.
+    fn make_room(&mut self) -> bool {
+        if self.context.loops().counts.has_room() {
+            return true;
+        }
+        if let Some(key) = self.connections.oldest_handshake() {
+            self.remove(key);
+            return self.context.loops().counts.has_room();
+        }
+        if self.acceptor.passes_turn(self.clock.second()) {
+            let rt = self.context.rt;
+            self.context.loops().pass_accept_turn(&rt, self.number);
+        }
+        false
     }
 
     // Lets the next loop accept after a failure, which is logged once until accepting works again.
@@ -114,7 +148,8 @@ impl<R: Net + Wait + Clock + Eprint + Copy + Drop, P: Policy + Drop, B: PassBran
         }
         let is_proxied = self.context.loops().settings.is_proxied;
         let second = self.clock.second();
-        let handshake = Handshake::new(self.alloc, stream, peer, is_proxied, second);
+        let order = self.acceptor.next_order();
+        let handshake = Handshake::new(self.alloc, stream, peer, is_proxied, second, order);
         if self.connections.add_handshake(handshake) {
             self.context.loops().counts.add_connection();
         }

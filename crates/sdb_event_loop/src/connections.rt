@@ -60,6 +60,18 @@ impl<B: PassBrand> Connections<B> {
         self.slots.get_mut(key)?.take_handshake()
     }
 
+    /// Returns the key of the handshake that began first.
+    pub(crate) fn oldest_handshake(&self) -> Option<usize> {
+        let mut oldest: Option<(u64, usize)> = None;
+        for key in 0..self.slots.capacity() {
+            if let Some(ConnectionSlot::Handshake(handshake)) = self.slots.get(key) {
+                let begun = (handshake.order(), key);
+                oldest = Some(oldest.map_or(begun, |other| other.min(begun)));
+            }
+        }
+        oldest.map(|(_, key)| key)
+    }
+
     /// Moves a client that waits for its pass out of its slot.
     pub(crate) fn take_awaiting(&mut self, key: usize) -> Option<WaitingClient> {
         self.slots.get_mut(key)?.take_awaiting()

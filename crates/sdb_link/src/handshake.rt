@@ -32,6 +32,7 @@ pub struct Handshake {
     response: PendingOutput,
     is_accepted: bool,
     start: u64,
+    order: u64,
 }
 
 /// A client after its handshake, without a session.
@@ -64,13 +65,15 @@ pub enum HandshakeProgress {
 }
 
 impl Handshake {
-    /// Begins a handshake. If clients connect through a proxy, the request has the client's address.
+    /// Begins a handshake, the one with this number in the order of accepting. If clients connect
+    /// through a proxy, the request has the client's address.
     pub fn new(
         alloc: Global,
         stream: MioStream,
         peer: Peer,
         is_proxied: bool,
         second: u64,
+        order: u64,
     ) -> Handshake {
         Handshake {
             alloc,
@@ -82,7 +85,13 @@ impl Handshake {
             response: PendingOutput::new(alloc),
             is_accepted: false,
             start: second,
+            order,
         }
+    }
+
+    /// Returns its number in the order of accepting.
+    pub fn order(&self) -> u64 {
+        self.order
     }
 
     /// Continues the handshake as far as the input permits.

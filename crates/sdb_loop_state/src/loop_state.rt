@@ -105,9 +105,4 @@ impl LoopState {
             self.ports.wake(rt, self.flags.accept_turn());
         }
     }
-
-    /// Returns whether the loop with this number may accept a connection.
-    pub fn may_accept(&self, number: usize) -> bool {
-        self.flags.may_accept(number) && self.counts.has_room()
-    }
 }
