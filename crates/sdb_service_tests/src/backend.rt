@@ -684,6 +684,27 @@ fn more_than_a_thousand_passes_enter(rt: HostRuntime) {
     enter_many(&rt, &backend, &mut host, 1_101);
 }
 
+// Submits in one atomic step. Returns the reply and the tries.
+fn submit_in_one_step<R: Wait + Drop>(
+    rt: &impl Abort,
+    alloc: Global,
+    backend: &Backend<R>,
+    pass: &mut Pass,
+    seq: u64,
+    version: Option<u64>,
+    content: Content,
+) -> (Reply, u64)
+    requires { IsPassOfBackend pass.old backend.now }
+    ensures { IsPassOfBackend pass.new backend.now }
+{
+    let (key, gate) = (key(rt, alloc, "1"), TryRecorder::new());
+    let submission = submission_of_pass(rt, alloc, pass, seq, version, content);
+    let now = Moment::zero();
+    let reply = submit_is_atomic(alloc, backend, pass, &key, submission, now, &gate);
+    (reply, gate.digits.get())
+}
+
+// A submission without a base version, one with a version, and one that is refused.
 #[test]
 fn an_atomic_submission_calls_its_gate(rt: HostRuntime) {
     let alloc = rt.alloc();
@@ -692,11 +713,15 @@ fn an_atomic_submission_calls_its_gate(rt: HostRuntime) {
         mut first,
         ..
     } = open_backend(&rt, alloc, rt);
-    let (key, gate) = (key(&rt, alloc, "1"), TryRecorder::new());
-    let submission = submission_of_pass(&rt, alloc, &first, 1, None, create_counter(&rt, alloc));
-    let now = Moment::zero();
-    let reply = submit_is_atomic(alloc, &backend, &mut first, &key, submission, now, &gate);
-    assert!(rt; stored_version(&reply) == Some((0, 0)) && gate.digits.get() == 1);
+    let create = create_counter(&rt, alloc);
+    let (reply, tries) = submit_in_one_step(&rt, alloc, &backend, &mut first, 1, None, create);
+    assert!(rt; (stored_version(&reply), tries) == (Some((0, 0)), 1));
+    let edit = increment(&rt, alloc, 1);
+    let (reply, tries) = submit_in_one_step(&rt, alloc, &backend, &mut first, 2, Some(1), edit);
+    assert!(rt; (stored_version(&reply), tries) == (Some((1, 0)), 1));
+    let edit = increment(&rt, alloc, 1);
+    let (reply, tries) = submit_in_one_step(&rt, alloc, &backend, &mut first, 3, Some(7), edit);
+    assert!(rt; matches!(reply, Reply::Refused(Code::E4)) && tries == 1);
 }
 
 // Opens a queue of the pass that starts at version 0.

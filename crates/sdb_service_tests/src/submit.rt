@@ -11,7 +11,7 @@ ghost use Rattle.sdb_service_tests.specs.Seen.{StaySeen};
 use crate::helpers::{counter_of, create_counter, increment, key, stored_version, submission};
 use sdb_desk::{FetchResult, Look, Outcome, Reply, Shard, SubscribeResult, Work};
 use sdb_oplog::{Code, Entry, Key, Moment, Submission};
-use sdb_submit::{Desk, Gate, Solo, submit};
+use sdb_submit::{Desk, Gate, Solo, submit, submit_alone};
 use sdb_subscribe::SubId;
 use std::alloc::{AllocError, Global};
 use std::cell::Cell;
@@ -232,13 +232,13 @@ fn one_caller_commits_at_its_first_try(rt: HostRuntime) {
 }
 
 // Returns the reply to the submission to the document `{"n":0}`, and the tries.
-fn submit_alone(rt: &impl Abort, alloc: Global, submission: Submission) -> (Reply, u64)
+fn submit_to_counter(rt: &impl Abort, alloc: Global, submission: Submission) -> (Reply, u64)
     requires { submission.by ≡ 0 }
 {
     let key = key(rt, alloc, "1");
     let (mut shard, gate) = (shard_with_counter(rt, alloc, &key), TryRecorder::new());
     let now = Moment::zero();
-    let reply = submit(alloc, &Solo, &mut shard, &key, submission, now, &gate);
+    let reply = submit_alone(alloc, &mut shard, &key, submission, now, &gate);
     (reply, gate.digits.get())
 }
 
@@ -253,12 +253,12 @@ fn refusal(reply: &Reply) -> Option<Code> {
 #[test]
 fn the_gate_is_called_before_each_commit(rt: HostRuntime) {
     let alloc = rt.alloc();
-    let (reply, tries) = submit_alone(&rt, alloc, add_hundred(&rt, alloc, None));
+    let (reply, tries) = submit_to_counter(&rt, alloc, add_hundred(&rt, alloc, None));
     assert!(rt; (stored_version(&reply), tries) == (Some((1, 0)), 1));
-    let (reply, tries) = submit_alone(&rt, alloc, add_hundred(&rt, alloc, Some(7)));
+    let (reply, tries) = submit_to_counter(&rt, alloc, add_hundred(&rt, alloc, Some(7)));
     assert!(rt; refusal(&reply) == Some(Code::E4) && tries == 1);
     let create = submission(&rt, alloc, "x", 1, None, create_counter(&rt, alloc), 0);
-    let (reply, tries) = submit_alone(&rt, alloc, create);
+    let (reply, tries) = submit_to_counter(&rt, alloc, create);
     assert!(rt; refusal(&reply) == Some(Code::E6) && tries == 1);
 }
 

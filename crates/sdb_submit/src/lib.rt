@@ -7,6 +7,6 @@ mod submit_loop;
 mod work_step;
 
 pub use desk::{Desk, Gate, NoGate};
-pub use solo::Solo;
+pub use solo::{Solo, submit_alone};
 pub use submit_loop::submit;
 pub use work_step::{resume_work, work};

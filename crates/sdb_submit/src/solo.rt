@@ -1,14 +1,18 @@
 //! The desk of one caller that owns the documents.
-ghost use Rattle.std.specs.Prelude.{⊤};
+ghost use Rattle.std.specs.Prelude.{◌≡◌, ⊤};
+ghost use Rattle.sdb_oplog.specs.Keys.{plain_key};
 ghost use Rattle.sdb_desk.specs.ShardView.{machine_of, logs_of, caches_of};
 ghost use Rattle.sdb_desk.specs.Looks.{IsLook};
+ghost use Rattle.sdb_desk.specs.Machine.{DecidesOrOutOfMemory};
+ghost use Rattle.sdb_desk.specs.ReplyView.{plain_reply};
 ghost use Rattle.sdb_submit.specs.Calls.{MachineStep, CachesAfterCall};
 
-use crate::desk::Desk;
+use crate::desk::{Desk, Gate};
+use crate::submit_loop::submit;
 use sdb_desk::{FetchResult, Look, Outcome, Reply, Shard, SubscribeResult, Work};
 use sdb_oplog::{Code, Entry, Key, Moment, Submission};
 use sdb_subscribe::SubId;
-use std::alloc::AllocError;
+use std::alloc::{AllocError, Global};
 
 /// A desk whose pass is the shard itself. The pass number is 0, and no call acquires a lock.
 #[derive(Clone, Copy, Drop)]
@@ -124,4 +128,27 @@ impl Desk for Solo {
     fn by(&self, _pass: &Shard) -> u64 {
         0
     }
+}
+
+/// Submits an operation with the number 0 to documents that have no other caller: it is decided at
+/// the moment, or an allocation failed and nothing changed. The queues stay open.
+///
+/// ```
+/// let reply = submit_alone(alloc, &mut shard, &key, submission, Moment::zero(), &NoGate);
+/// assert!(rt; matches!(reply, Reply::Stored { v: 0, .. }));
+/// ```
+pub fn submit_alone<G: Gate>(
+    alloc: Global,
+    shard: &mut Shard,
+    key: &Key,
+    submission: Submission,
+    now: Moment,
+    gate: &G,
+) -> Reply
+    requires { submission.by ≡ 0 }
+    ensures decides { DecidesOrOutOfMemory (logs_of shard.old) (plain_key key.now) submission now
+        (plain_reply result) (logs_of shard.new) }
+    ensures queues { (machine_of shard.new).queues ≡ (machine_of shard.old).queues }
+{
+    submit(alloc, &Solo, shard, key, submission, now, gate)
 }
