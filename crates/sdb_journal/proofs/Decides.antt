@@ -6,7 +6,14 @@ use Rattle.sdb_oplog.specs.Plain.{PlainEntry}
 use Rattle.sdb_dump.specs.DumpLine.{PlainLineContent}
 use Rattle.sdb_dump.specs.DumpText.{decided_entry, is_text_of_entry, line_of_entry_cond}
 use Rattle.sdb_dump.specs.declared.version.DumpVersion.TheVariants.{Two}
-use Rattle.sdb_journal.specs.JournalModel.{DecidesLine, AppendsEntry}
+use Rattle.sdb_journal.specs.JournalModel.{AppendsEntry}
+
+-- the decision appended the entry of the line, or there is no such entry
+abbrev pub DecidesLine : List ℕ → PlainLineContent → List PlainEntry → List PlainEntry → Bool → Type 0
+DecidesLine line r old new true =
+    (e : PlainEntry) × (option_and_then (line_of_entry_cond Two line r) (decided_entry old r.submission r.moment) ≡ Some (record { key = r.key; entry = e })) × (new ≡ old ++ e ∷ [])
+DecidesLine line r old new false =
+    option_and_then (line_of_entry_cond Two line r) (decided_entry old r.submission r.moment) ≡ None
 
 module _ (line : List ℕ) (r : PlainLineContent) (old new : List PlainEntry) (e : PlainEntry) (by : decided_entry old r.submission r.moment ≡ Some e) (grows : new ≡ old ++ e ∷ []) where
   decides_as : (b : Bool) → b ≡ is_text_of_entry Two line r.key r.moment e → DecidesLine line r old new b
@@ -19,9 +26,6 @@ module _ (line : List ℕ) (r : PlainLineContent) (old new : List PlainEntry) (e
   decides (Ok b) h = decides_as b h
   decides (Err x) h = tt
 
-pub decides_none : (line : List ℕ) (r : PlainLineContent) (old new : List PlainEntry) → decided_entry old r.submission r.moment ≡ None → DecidesLine line r old new false
-decides_none line r old new by = ap (option_and_then (line_of_entry_cond Two line r)) by
-
 -- the same of the logs by key
 pub appends : (line : List ℕ) (r : PlainLineContent) (old new : Logs) (log after : List PlainEntry) (b : Bool) → log ≡ old r.key → new ≡ with_log old r.key after → DecidesLine line r log after b
     → AppendsEntry line r old new b
@@ -31,7 +35,3 @@ appends line r old new log after true is wrote h = (
   wrote ∙ ap (with_log old r.key) (h.2 ∙ ap (λ l. l ++ h.0 ∷ []) is),
 )
 appends line r old new log after false is wrote h = subst (λ l. option_and_then (line_of_entry_cond Two line r) (decided_entry l r.submission r.moment) ≡ None) is h
-
-pub if_ok : {A E : Type 0} (result : Result A E) (P Q : A → Type 0) → ((x : A) → P x → Q x) → IfOk result P → IfOk result Q
-if_ok (Ok x) P Q f h = f x h
-if_ok (Err x) P Q f h = tt

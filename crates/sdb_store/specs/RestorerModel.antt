@@ -13,8 +13,7 @@ use Rattle.sdb_backend.specs.RestorationModel.{restored_logs, HasNoShare}
 use Rattle.sdb_backend.specs.declared.pass.Host.{Host}
 use Rattle.sdb_backend.specs.declared.pass.Pass.{Pass}
 use Rattle.sdb_backend.specs.declared.shard_value.Held.{Held}
-use Rattle.sdb_journal.specs.JournalText.{JournalItem, logs_of_items, accepted_item, read_number}
-use Rattle.sdb_journal.specs.JournalText as journal
+use Rattle.sdb_journal.specs.JournalText.{JournalItem, logs_of_items, highest_number as highest_item_number, accepted_item, read_number}
 use Rattle.sdb_journal.specs.StoreMachine.{IsIn}
 use Rattle.sdb_store.specs.declared.restorer.Restorer.{Restorer}
 use Rattle.sdb_store.specs.declared.restorer.RestoredBackend.{RestoredBackend}
@@ -42,7 +41,7 @@ pub record RestorerGrows (old new : Restorer) : Type 0 where
 -- the restorer has restored these items of a journal
 pub record HasRestored (r : Restorer) (xs : List JournalItem) : Type 0 where
   pub logs : restorer_logs r ≡ logs_of_items xs
-  pub highest : highest_number r ≡ journal.highest_number xs
+  pub highest : highest_number r ≡ highest_item_number xs
 
 -- the restorer has restored these items and that of the line
 pub record HasRestoredLine (r : Restorer) (xs : List JournalItem) (line : List ℕ) : Type 0 where
