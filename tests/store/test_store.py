@@ -7,7 +7,6 @@ import re
 import resource
 import shutil
 import signal
-import sqlite3
 import subprocess
 import tempfile
 import threading
