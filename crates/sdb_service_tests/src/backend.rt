@@ -8,7 +8,7 @@ use sdb_backend::{
     Audit, Backend, CloseError, CloseRefused, Counts, Host, Pass, submit_is_atomic, take_is_fifo,
 };
 use sdb_desk::Reply;
-use sdb_oplog::{Content, Entry, Key, Log, Moment, Submission};
+use sdb_oplog::{Code, Content, Entry, Key, Log, Moment, Submission};
 use sdb_submit::{Desk, Gate, NoGate, submit};
 use sdb_subscribe::SubId;
 use std::alloc::Global;

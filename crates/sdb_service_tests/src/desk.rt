@@ -111,6 +111,12 @@ impl TestDocument {
         self.shard.commit_last(&self.key, work, Moment::zero())
     }
 
+    fn commit_newer(&mut self, work: Work) -> Reply
+        requires { IsSeen (plain_key self.old.key) self.old.shard work }
+    {
+        self.shard.commit_newer(&self.key, work, Moment::zero())
+    }
+
     // Returns the version and the number of the document.
     fn version_and_number(&mut self, rt: &impl Abort) -> (u64, Option<i64>) {
         let fetched = self.shard.fetch(&self.key).expect(rt, "out of memory");
@@ -168,6 +174,79 @@ fn a_work_made_by_its_caller_is_committed(rt: HostRuntime) {
         decided_version(&document.commit(work)) == Some((1, 0))
             && document.version_and_number(&rt) == (2, None)
     );
+}
+
+// Returns the texts, `middle` as often as this, as one.
+fn repeated(
+    rt: &impl Abort,
+    alloc: Global,
+    (first, middle, last): (&str, &str, &str),
+    count: usize,
+) -> String {
+    let mut all = text(rt, alloc, first);
+    for _ in 0..count {
+        all.push_str(middle).expect(rt, "out of memory");
+    }
+    all.push_str(last).expect(rt, "out of memory");
+    all
+}
+
+// Returns an edit with this component, and with the other one as often as this.
+fn long_edit(rt: &impl Abort, alloc: Global, first: &str, other: &str, count: usize) -> Content {
+    let parts = (first, other, "]}");
+    content(rt, alloc, repeated(rt, alloc, parts, count).as_str())
+}
+
+// Stores a document and works on an edit. Stores a newer edit, and returns the reply of the last
+// commit of the first one.
+fn reply_after(
+    rt: &impl Abort,
+    alloc: Global,
+    create: Content,
+    edit: Content,
+    newer: Content,
+) -> Reply {
+    let mut document = TestDocument::empty(rt, alloc);
+    document.store(rt, submission(rt, alloc, "w", 1, None, create, 0));
+    let edit = submission(rt, alloc, "y", 1, Some(1), edit, 0);
+    let work = compute_work(rt, alloc, document.attempt(rt, edit));
+    document.store(rt, submission(rt, alloc, "x", 1, None, newer, 0));
+    document.commit_newer(work)
+}
+
+// Returns an edit with one component that adds 1, and so many others.
+fn additions(rt: &impl Abort, alloc: Global, others: usize) -> Content {
+    let first = r#"{"op":[{"p":[],"na":1}"#;
+    long_edit(rt, alloc, first, r#",{"p":[],"na":1}"#, others)
+}
+
+#[test]
+fn the_last_commit_transforms_at_most_16384_pairs(rt: HostRuntime) {
+    let alloc = rt.alloc();
+    for (count, version) in [(127, Some((2, 1))), (128, None)] {
+        let create = content(&rt, alloc, r#"{"create":{"type":"json0","data":0}}"#);
+        let edit = additions(&rt, alloc, 127);
+        let reply = reply_after(&rt, alloc, create, edit, additions(&rt, alloc, count));
+        assert!(rt; stored_version(&reply) == version, "{count}");
+        assert!(rt; version.is_some() || matches!(reply, Reply::Refused(Code::E10)));
+    }
+}
+
+// Each insert splits the deletion of 200 units once more.
+#[test]
+fn the_last_commit_counts_the_parts_of_a_deletion(rt: HostRuntime) {
+    let alloc = rt.alloc();
+    for (count, version) in [(126, Some((2, 1))), (127, None)] {
+        let create = (r#"{"create":{"type":"json0","data":""#, "a", r#""}}"#);
+        let create = content(&rt, alloc, repeated(&rt, alloc, create, 200).as_str());
+        let delete = (r#"{"op":[{"p":[0],"sd":""#, "a", r#""}]}"#);
+        let delete = content(&rt, alloc, repeated(&rt, alloc, delete, 200).as_str());
+        let first = r#"{"op":[{"p":[100],"si":"b"}"#;
+        let inserts = long_edit(&rt, alloc, first, r#",{"p":[100],"si":"b"}"#, count);
+        let reply = reply_after(&rt, alloc, create, delete, inserts);
+        assert!(rt; stored_version(&reply) == version, "{count}");
+        assert!(rt; version.is_some() || matches!(reply, Reply::Refused(Code::E10)));
+    }
 }
 
 // Another edit is stored after the edit was rebased.
