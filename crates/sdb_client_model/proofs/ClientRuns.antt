@@ -127,7 +127,7 @@ own_edits_of_new log source c n =
       sent = subst (IsSentMade (length log) log) (sym n.sent) tt;
     }
 
-made_start : (s : SharedDocument) → IsStart s → AreEditsMade s s
+pub made_start : (s : SharedDocument) → IsStart s → AreEditsMade s s
 made_start s h = record {
   entries = [];
   log = sym (append_nil s.log);
@@ -139,11 +139,11 @@ formed_document : (d : Option Value) → IsWellFormedDocument d → IsFormedDocu
 formed_document None h = tt
 formed_document (Some d) h = formed_of d h
 
-starts_formed : (s : SharedDocument) → IsStart s → IsWellFormedDocument (document_of s.log) → StartsFormed s
+pub starts_formed : (s : SharedDocument) → IsStart s → IsWellFormedDocument (document_of s.log) → StartsFormed s
 starts_formed s h f = record { snapped = some_of_is_some (snap s.log) (alive_of_made s.log h.log_is_made); formed = formed_document (document_of s.log) f }
 
 module _ (start : SharedDocument) (from : StartsFormed start) where
-  made_step : (step : ClientStep) (old new : SharedDocument) → IsConsistent old → AreEditsMade start old → IsStepInRange step old → IsClientStep step old new → AreEditsMade start new
+  pub made_step : (step : ClientStep) (old new : SharedDocument) → IsConsistent old → AreEditsMade start old → IsStepInRange step old → IsClientStep step old new → AreEditsMade start new
   made_step (make_edit source op) old new h a range step = subst (AreEditsMade start) (sym step) (made_edit start old from h a source op range)
   made_step (send_edit source) old new h a range step = subst (AreEditsMade start) (sym step.new_is) (made_send start old from h a source step.operation step.rest step.first)
   made_step (decide_edit m via by now) old new h a range step = subst (AreEditsMade start) (sym step.1) (made_decision start old from h a m step.0 via by now range)

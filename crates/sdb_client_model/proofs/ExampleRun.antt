@@ -1,6 +1,6 @@
 -- An example: a run of two clients that insert an item at index 0 of one list at the same time.
 use Rattle.std.specs.Prelude.{◌≡◌, ℕ, ℤ, List, [], ◌∷◌, ◌++◌, true, false, Option, Some, None, Result, Ok, codes, refl}
-use Rattle.std.proofs.Common.{sym, ap, ◌∙◌, subst, arith}
+use Rattle.std.proofs.Common.{inl, sym, ap, ◌∙◌, subst, arith}
 use Rattle.sdb_value.specs.Value.{Value, null, truth, list, Items, no_items, item}
 use Rattle.sdb_value.specs.WellFormed.{IsWellFormed}
 use Rattle.sdb_component.specs.Plain.{na, li, PlainComponent}
@@ -19,6 +19,7 @@ use Rattle.sdb_client_model.specs.Machine.{SubmittedEdit, SharedDocument, Client
 use Rattle.sdb_client_model.specs.Convergence.{IsStart}
 use Rattle.sdb_client_model.specs.RunPremises.{CrossesInRange, PendingCrossesInRange, IsRebasedInRange, AreStepsInRange, IsStepInRange}
 use Rattle.sdb_client_model.specs.MadeEdits.{IsReachedInRange}
+use Rattle.sdb_client_model.specs.SmallRuns.{IsStepMade, AreStepsMade, IsReachedBySmallRun}
 
 -- ---- the start: a list without items
 
@@ -441,6 +442,26 @@ row_run = record {
   reached = record { starts = row_start; run = run_of steps start s16 row_steps };
   well_formed = tt;
   steps_in_range = range_of steps start s16 row_steps;
+}
+
+-- the run is small: its edits add nothing, the list is empty at the start, and they insert three items
+step_made : (s : ClientStep) (old : SharedDocument) → IsStepInRange s old → IsStepMade s old
+step_made (make_edit source op) old h = h
+step_made (send_edit source) old h = tt
+step_made (decide_edit m via by now) old h = tt
+step_made (process_entry source) old h = tt
+
+made_of : (rest : List ClientStep) (old new : SharedDocument) (run : Run rest old new) → AreStepsMade rest old new (run_of rest old new run)
+unfolding run_of
+made_of _ _ _ (end s) = tt
+made_of _ _ _ (then {s} {rest} {old} {mid} {new} step run) = (step_made s old step.range, made_of rest mid new run)
+
+pub row_small_run : IsReachedBySmallRun steps start s16
+row_small_run = record {
+  reached = record { starts = row_start; run = run_of steps start s16 row_steps };
+  well_formed = tt;
+  made = made_of steps start s16 row_steps;
+  small = record { amounts = inl refl; texts = omega arith; entries = omega arith };
 }
 
 -- before b processes a's edit, and at the end

@@ -7,5 +7,11 @@ mod StoredEdits
 mod MadeEdits
 mod ClientRuns
 mod StoredOnceLemmas
+mod Reductions
+mod NumberBounds
+mod LengthBounds
+mod Accounts
+mod RunBounds
+mod SmallRunLemmas
 mod ExampleRun
 mod ExampleUnmadeRun

@@ -30,7 +30,7 @@ pub record StartsFormed (start : SharedDocument) : Type 0 where
   pub formed : IsFormedDocument (document_of start.log)
 
 -- the entries since a version that isn't before the start are made
-made_since : (start s : SharedDocument) (v : ℕ) (d : Option Value) → StartsFormed start → AreEditsMade start s → length start.log ≤ v → snap (take v s.log) ≡ Some d → RestMade (drop v s.log) d
+pub made_since : (start s : SharedDocument) (v : ℕ) (d : Option Value) → StartsFormed start → AreEditsMade start s → length start.log ≤ v → snap (take v s.log) ≡ Some d → RestMade (drop v s.log) d
 made_since start s v d from a reached at =
     subst (λ l. RestMade (drop v l) d) (sym a.log)
     (rest_made start.log a.entries v (document_of start.log) d from.formed a.made from.snapped reached (ap (λ l. snap (take v l)) (sym a.log) ∙ at))

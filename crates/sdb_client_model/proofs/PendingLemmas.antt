@@ -19,7 +19,7 @@ same_some x y e = cc
 
 -- ---- one crossing
 
-run_to : (cs : List PlainComponent) (d e : Value) → AreMadeFor cs d → apply cs d ≡ Some e → OperationRun cs d e
+pub run_to : (cs : List PlainComponent) (d e : Value) → AreMadeFor cs d → apply cs d ≡ Some e → OperationRun cs d e
 run_to cs d e a h = let r = run_of cs d a in subst (OperationRun cs d) (same_some r.result e (sym r.applied ∙ h)) r.run
 
 made_in_range : (cs : List PlainComponent) (d e : Value) → MadeOrOverflows cs d e → (SomeSumLeavesRange cs d → ⊥) → MadeResult cs d e

@@ -4,4 +4,5 @@ pub mod MadeEdits
 pub mod Invariant
 pub mod Machine
 pub mod RunPremises
+pub mod SmallRuns
 pub mod StoredOnce

@@ -1,6 +1,7 @@
 //! Laws of clients that share one document, as contracts of functions without effect.
 ghost use Rattle.sdb_client_model.specs.Convergence.{RunsAreConsistent, ClientsConverge, ClientsAgree};
 ghost use Rattle.sdb_client_model.specs.MadeEdits.{EditsStayMade, ClientsShowDocuments, NoneIsStuck, NoneRefused, EntriesAreProcessed};
+ghost use Rattle.sdb_client_model.specs.SmallRuns.{SmallRunsAreInRange, NextDecisionsAreInRange, NextEntriesAreInRange};
 ghost use Rattle.sdb_client_model.specs.StoredOnce.{AllEditsAreStored, NoneStoredTwice};
 
 /// States convergence of the clients of a document after each run. A client that has processed all
@@ -45,4 +46,17 @@ pub fn entries_are_processed()
 pub fn edits_are_stored_once()
     ensures edits { AllEditsAreStored }
     ensures entries { NoneStoredTwice }
+{}
+
+/// States that each step of a small run is in range, and so are the next decision and the next entry.
+/// So the premises about ranges of [`edits_stay_made`], [`no_edit_is_refused`] and
+/// [`entries_are_processed`] follow from the run's edits and its start.
+///
+/// A run is small if what its edits add, what they insert and how many they are stay below 2^53, each
+/// together with what the start holds. The start's document is well formed, and each edit is made for
+/// what its client shows.
+pub fn small_runs_are_in_range()
+    ensures run { SmallRunsAreInRange }
+    ensures decisions { NextDecisionsAreInRange }
+    ensures entries { NextEntriesAreInRange }
 {}
