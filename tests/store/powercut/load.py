@@ -7,6 +7,7 @@ from support.frames import Connection, Fault, text
 
 TYPE = "http://sharejs.org/types/JSONv0"
 PATIENCE = 20  # seconds for an answer
+PAUSE = 0.2  # seconds at most between two turns of a client, so that a fast server's record has thousands of events and not more
 BURSTS = [1, 1, 1, 4, 12]
 SIZES = [1] * 12 + [300, 3_000, 40_000]
 
@@ -47,6 +48,7 @@ class Client(threading.Thread):
                 connection.send(text({"a": "f", **self.key}))
                 while connection.message()["a"] != "f":
                     pass
+            time.sleep(self.chance.random() * PAUSE)
 
     def messages(self, source, version, seq):
         head = {"a": "op", **self.key, "v": version, "src": source}
