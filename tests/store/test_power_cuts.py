@@ -278,7 +278,7 @@ def test_a_thousand_states(program, recorder, folder, seed, number):
         {"kill": False},
         {"fail_sync": 100},
     ]
-    recording = Recording(program, recorder, folder, f"{seed}-{number}", 12, 24, **faults[number])
+    recording = Recording(program, recorder, folder, f"{seed}-{number}", 4, 24, **faults[number])
     check(recording, 1_000, seed, read_by_program=40, starts=100)
     if "fail_sync" in faults[number]:
         check_that_a_failed_sync_is_the_last_call(recording)
