@@ -32,9 +32,6 @@ one_fits n a h l = (h, l, tt)
 unchanged_in_limits : (a : PlainAct) → ActInLimits 100 a → ActsInLimits (length (last_step a)) (one_act a)
 unchanged_in_limits a h = (h, omega arith, tt)
 
-no_acts_in_limits : (n : ℕ) → ActsInLimits n no_acts
-no_acts_in_limits n = tt
-
 if_knowing : (n : ℕ) (t : Bool) (a b : ActTransform) → (t ≡ true → ActsInLimits n a) → (t ≡ false → ActsInLimits n b) → ActsInLimits n (if t then a else b)
 if_knowing n true a b h k = h refl
 if_knowing n false a b h k = k refl

@@ -1,7 +1,7 @@
 -- The check of a text, continued with a part of it, and its end.
 use Rattle.std.proofs.Common.{◌≡◌, ◌≢◌, ℕ, ◌+◌, ◌-◌, List, [], ◌∷◌, ◌++◌, Some, None, take, drop, length, All, refl, ap, sym, ◌∙◌, subst, append_assoc, append-nil, ne_eqb, IfSome}
 use Rattle.std.specs.declared.option.Option.{Option}
-use Rattle.std.specs.Prelude.{Result, Ok, Err, IfOk, IfErr}
+use Rattle.std.specs.Prelude.{Ok}
 use Rattle.std.specs.Io.KnownBytes.{Consumes, IsAtEnd}
 use Rattle.std.proofs.KnownBytes.{Consumes-trans, Consumes-whole}
 use Rattle.std.proofs.lemmas.List.{take_rest}
@@ -67,11 +67,10 @@ accepts_of_check d text xs e h =
     let w = dumped_lines text xs e h.fits in
     let same : log_of_lines xs ≡ accepted_logs d = λ i k. sym (h.logs k) i in
     record {
-      version = w.0;
-      text = subst (λ f. DumpText w.0 f text) same w.1;
-      dumped = subst (AreDumpable w.0) same w.2;
+      text = subst (λ f. DumpText f text) same w.0;
+      dumped = subst AreDumpable same w.1;
       documents = h.documents;
-      entries = subst (λ f. HasEntryCount f d.entries) same (subst (HasEntryCount (log_of_lines xs)) (sym h.counted) w.3);
+      entries = subst (λ f. HasEntryCount f d.entries) same (subst (HasEntryCount (log_of_lines xs)) (sym h.counted) w.2);
     }
 
 -- ---- the progress of a run
@@ -145,13 +144,3 @@ module _ {left left' : Option (List ℕ)} {c : Checker} {partial : List ℕ} (le
 
   pub check_run_refused : (f : DumpFault) → ((s : PlainStage) → CheckerAtStage c s → IsDumpFault f (stage_result s partial)) → IfSome left (λ text. IsDumpFault f (check_text text))
   check_run_refused f h = at_end (λ text. IsDumpFault f (check_text text)) (subst (IsDumpFault f) stage_result_is_check (h w.stage w.checks))
-
--- ---- results
-
-pub if_ok_then : {A E : Type 0} {P Q : A → Type 0} (r : Result A E) → ((x : A) → P x → Q x) → IfOk r P → IfOk r Q
-if_ok_then (Ok x) f h = f x h
-if_ok_then (Err e) f h = tt
-
-pub if_err_then : {A E : Type 0} {P Q : E → Type 0} (r : Result A E) → ((e : E) → P e → Q e) → IfErr r P → IfErr r Q
-if_err_then (Ok x) f h = tt
-if_err_then (Err e) f h = f e h

@@ -2,8 +2,6 @@
 use Rattle.std.proofs.Common.{◌≡◌, ℕ, ◌+◌, List, [], ◌∷◌, ◌++◌, length, Bool, true, false, bytes_eq, Option, Some, None, Err, refl, ap, ◌∙◌, arith, length-append}
 use Rattle.std.specs.Prelude.{if◌then◌else◌}
 use Rattle.std.specs.Option.{option_map_or}
-use Rattle.sdb_dump.specs.declared.version.DumpVersion.{DumpVersion}
-use Rattle.sdb_dump.specs.declared.version.DumpVersion.TheVariants.{One, Two}
 use Rattle.sdb_dump.specs.DumpText.{PlainLine, header_line, count_line, accepted_line, check_end, check_from, check}
 use Rattle.sdb_dump.specs.CheckStages.{head, body, done, wrong, stage_after_entry, stages_result}
 
@@ -18,28 +16,25 @@ at_over xs [] (x ∷ rest) = let e : length xs + 3 ≡ length xs + 2 + 1 = omega
 at_over xs (l ∷ ls) [] = let e : length xs + 3 ≡ length xs + 2 + 1 = omega arith in wrong_stays (length xs + 3) ls [] ∙ ap Err e
 at_over xs (l ∷ ls) (x ∷ rest) = let e : length xs + 3 ≡ length xs + 2 + 1 = omega arith in wrong_stays (length xs + 3) ls (x ∷ rest) ∙ ap Err e
 
-line_from : (v : DumpVersion) (b : Bool) (o : Option PlainLine) (xs : List PlainLine) (ls : List (List ℕ)) (rest : List ℕ)
-    → ((ys : List PlainLine) → stages_result (body v ys) ls rest ≡ check_from v ys (length ys + 2) ls rest)
-    → stages_result (if b then done xs else stage_after_entry v xs o) ls rest
-    ≡ (if b then check_end xs (length xs + 2 + 1) ls rest else option_map_or (λ x. check_from v (xs ++ x ∷ []) (length xs + 2 + 1) ls rest) o (Err (length xs + 2)))
-line_from v true o xs ls rest below = at_over xs ls rest
-line_from v false None xs ls rest below = wrong_stays (length xs + 2) ls rest
-line_from v false (Some x) xs ls rest below =
+line_from : (b : Bool) (o : Option PlainLine) (xs : List PlainLine) (ls : List (List ℕ)) (rest : List ℕ)
+    → ((ys : List PlainLine) → stages_result (body ys) ls rest ≡ check_from ys (length ys + 2) ls rest)
+    → stages_result (if b then done xs else stage_after_entry xs o) ls rest
+    ≡ (if b then check_end xs (length xs + 2 + 1) ls rest else option_map_or (λ x. check_from (xs ++ x ∷ []) (length xs + 2 + 1) ls rest) o (Err (length xs + 2)))
+line_from true o xs ls rest below = at_over xs ls rest
+line_from false None xs ls rest below = wrong_stays (length xs + 2) ls rest
+line_from false (Some x) xs ls rest below =
     let e : length (xs ++ x ∷ []) + 2 ≡ length xs + 2 + 1 = omega (arith, length-append xs (x ∷ [])) in
-    below (xs ++ x ∷ []) ∙ ap (λ n. check_from v (xs ++ x ∷ []) n ls rest) e
+    below (xs ++ x ∷ []) ∙ ap (λ n. check_from (xs ++ x ∷ []) n ls rest) e
 
-staged_from : (v : DumpVersion) (ls : List (List ℕ)) (rest : List ℕ) (xs : List PlainLine) → stages_result (body v xs) ls rest ≡ check_from v xs (length xs + 2) ls rest
-staged_from v [] rest xs = refl
-staged_from v (l ∷ ls) rest xs = line_from v (bytes_eq l (count_line (length xs))) (accepted_line v xs l) xs ls rest (staged_from v ls rest)
+staged_from : (ls : List (List ℕ)) (rest : List ℕ) (xs : List PlainLine) → stages_result (body xs) ls rest ≡ check_from xs (length xs + 2) ls rest
+staged_from [] rest xs = refl
+staged_from (l ∷ ls) rest xs = line_from (bytes_eq l (count_line (length xs))) (accepted_line xs l) xs ls rest (staged_from ls rest)
 
-head_from : (a b : Bool) (ls : List (List ℕ)) (rest : List ℕ)
-    → stages_result (if a then body One [] else (if b then body Two [] else wrong 1)) ls rest
-    ≡ (if a then check_from One [] 2 ls rest else (if b then check_from Two [] 2 ls rest else Err 1))
-head_from true b ls rest = staged_from One ls rest []
-head_from false true ls rest = staged_from Two ls rest []
-head_from false false ls rest = wrong_stays 1 ls rest
+head_from : (b : Bool) (ls : List (List ℕ)) (rest : List ℕ) → stages_result (if b then body [] else wrong 1) ls rest ≡ (if b then check_from [] 2 ls rest else Err 1)
+head_from true ls rest = staged_from ls rest []
+head_from false ls rest = wrong_stays 1 ls rest
 
 -- checking line by line has the result of checking all lines
 pub staged_is : (ls : List (List ℕ)) (rest : List ℕ) → stages_result head ls rest ≡ check ls rest
 staged_is [] rest = refl
-staged_is (l ∷ ls) rest = head_from (bytes_eq l (header_line One)) (bytes_eq l (header_line Two)) ls rest
+staged_is (l ∷ ls) rest = head_from (bytes_eq l header_line) ls rest

@@ -12,7 +12,6 @@ use Rattle.sdb_oplog.specs.Refusal.{result_and_then}
 use Rattle.sdb_oplog.specs.Snap.{apply_content, snap, snap_from}
 use Rattle.sdb_oplog.specs.Decide.{IsMade, IsMadeFrom}
 use Rattle.sdb_oplog.specs.declared.codes.Code.TheVariants.{E8}
-use Rattle.sdb_dump.specs.declared.version.DumpVersion.{DumpVersion}
 use Rattle.sdb_dump.specs.DumpLaws.{AllInLimits}
 use Rattle.sdb_dump.specs.EntryLimits.{ContentInLimits}
 use Rattle.sdb_dump.specs.LogListing.{lines_of_log}
@@ -55,15 +54,15 @@ take_contents (suc n) [] h = tt
 take_contents (suc n) (e ∷ es) h = (h.0, take_contents n es h.1)
 
 -- the contents of a made log are within the limits if its submissions are
-contents_of : (v : DumpVersion) (k : PlainKey) (before more : List PlainEntry) → LogInLimits before → IsMadeFrom before more → AllInLimits v (lines_of_log k more) → AllContentsInLimits more
-contents_of v k before [] h m f = tt
-contents_of v k before (e ∷ es) h m f =
-    let g = append_in_limits v before e h f.1 f.2 m.0 in
+contents_of : (k : PlainKey) (before more : List PlainEntry) → LogInLimits before → IsMadeFrom before more → AllInLimits (lines_of_log k more) → AllContentsInLimits more
+contents_of k before [] h m f = tt
+contents_of k before (e ∷ es) h m f =
+    let g = append_in_limits before e h f.1 f.2 m.0 in
     let next : LogInLimits (before ++ e ∷ []) = (contents_more before e h.0 g.fits.content, omega (arith, length-append before (e ∷ []), g.some_room)) in
-    (g.fits.content, contents_of v k (before ++ e ∷ []) es next m.1 f.3)
+    (g.fits.content, contents_of k (before ++ e ∷ []) es next m.1 f.3)
 
-pub documents_bounded : (v : DumpVersion) (k : PlainKey) (log : List PlainEntry) → IsMade log → AllInLimits v (lines_of_log k log)
+pub documents_bounded : (k : PlainKey) (log : List PlainEntry) → IsMade log → AllInLimits (lines_of_log k log)
     → (n : ℕ) (d : Value) → snap (take n log) ≡ Some (Some d) → ValueInLimits 100 d
-documents_bounded v k log made f n d e =
-    let contents = contents_of v k [] log (tt, omega arith) made f in
+documents_bounded k log made f n d e =
+    let contents = contents_of k [] log (tt, omega arith) made f in
     subst (IfSomeHolds DocumentInLimits) e (snap_keeps (take n log) None (take_contents n log contents) tt)

@@ -16,7 +16,6 @@ use Rattle.sdb_dump.specs.DumpLine.{PlainLineContent}
 use Rattle.sdb_dump.specs.EntryLimits.{KeyInLimits, SubmissionInLimits, AllKeysInLimits}
 use Rattle.sdb_dump.specs.declared.checker.Checker.{Checker}
 use Rattle.sdb_dump.specs.declared.checker.LastDocument.{LastDocument}
-use Rattle.sdb_dump.specs.declared.version.DumpVersion.{DumpVersion}
 use Rattle.sdb_dump.proofs.AcceptLemmas.{log_more}
 use Rattle.sdb_dump.proofs.DecideLemmas.{stored_is}
 use Rattle.sdb_dump.proofs.StageLemmas.{follows_is, last_more}
@@ -42,9 +41,6 @@ takes_first old mid xs k is same h =
     }
 
 module _ (old mid : Checker) (l : LastDocument) (xs : List PlainLine) (k : PlainKey) (is : old.last ≡ Some l) (h : CheckerHolds old xs) where
-  current_key : PlainKey
-  current_key = plain_key l.key
-
   last_is : last_key xs ≡ Some (plain_key l.key)
   last_is = sym h.last ∙ ap (option_map (λ (m : LastDocument). plain_key m.key)) is
 
@@ -93,7 +89,7 @@ module _ (old mid : Checker) (l : LastDocument) (xs : List PlainLine) (k : Plain
 
 -- ---- the state after it
 
-logs_after : (f : Logs) (xs : List PlainLine) (x : PlainLine) (log : List PlainEntry) → log ≡ log_of_lines xs x.key
+pub logs_after : (f : Logs) (xs : List PlainLine) (x : PlainLine) (log : List PlainEntry) → log ≡ log_of_lines xs x.key
     → ((q : PlainKey) → keys_equal x.key q ≡ false → f q ≡ log_of_lines xs q) → (q : PlainKey) → with_log f x.key (log ++ x.entry ∷ []) q ≡ log_of_lines (xs ++ x ∷ []) q
 logs_after f xs x log is others q = elim (cases_Bool (keys_equal x.key q)) [
   | inl t ↦
@@ -120,16 +116,16 @@ not_empty : (log : List PlainEntry) (e : PlainEntry) → (log ++ e ∷ []) ≢ [
 not_empty [] e = λ h. cc
 not_empty (x ∷ log) e = λ h. cc
 
-module _ (v : DumpVersion) (xs : List PlainLine) (line : List ℕ) (r : PlainLineContent) (log : List PlainEntry) (mid : Checker) (w : CheckerContinues xs r.key log mid) where
+module _ (xs : List PlainLine) (line : List ℕ) (r : PlainLineContent) (log : List PlainEntry) (mid : Checker) (w : CheckerContinues xs r.key log mid) where
   abbrev line_of_entry : PlainEntry → PlainLine
   line_of_entry e = record { key = r.key; entry = e }
 
-  entered_is : (o : Option PlainEntry) → decided_entry log r.submission r.moment ≡ o → line_of_read v xs line r ≡ option_and_then (line_of_entry_cond v line r) o
+  entered_is : (o : Option PlainEntry) → decided_entry log r.submission r.moment ≡ o → line_of_read xs line r ≡ option_and_then (line_of_entry_cond line r) o
   entered_is o by =
-      ap (λ b. if b then option_and_then (line_of_entry_cond v line r) (decided_entry (log_of_lines xs r.key) r.submission r.moment) else None) w.follows
-      ∙ ap (option_and_then (line_of_entry_cond v line r)) (ap (λ l. decided_entry l r.submission r.moment) (sym w.begins) ∙ by)
+      ap (λ b. if b then option_and_then (line_of_entry_cond line r) (decided_entry (log_of_lines xs r.key) r.submission r.moment) else None) w.follows
+      ∙ ap (option_and_then (line_of_entry_cond line r)) (ap (λ l. decided_entry l r.submission r.moment) (sym w.begins) ∙ by)
 
-  pub not_entered : decided_entry log r.submission r.moment ≡ None → line_of_read v xs line r ≡ None
+  pub not_entered : decided_entry log r.submission r.moment ≡ None → line_of_read xs line r ≡ None
   not_entered by = entered_is None by
 
   holds_more : (old new : Checker) (e : PlainEntry) (l : LastDocument) → CheckerHolds old xs → KeyInLimits r.key → SubmissionInLimits r.submission → decided_entry log r.submission r.moment ≡ Some e
@@ -153,7 +149,7 @@ module _ (v : DumpVersion) (xs : List PlainLine) (line : List ℕ) (r : PlainLin
 
   pub enter_holds : (old new : Checker) (e : PlainEntry) (l : LastDocument) (b : Bool) → CheckerHolds old xs → KeyInLimits r.key → SubmissionInLimits r.submission → decided_entry log r.submission r.moment ≡ Some e
       → new.logs.entries ≡ mid.logs.entries → new.last ≡ Some l → plain_key l.key ≡ r.key → l.document ≡ log ++ e ∷ [] → new.entries ≡ old.entries + 1
-      → b ≡ is_text_of_entry v line r.key r.moment e → AcceptsOrRejects b (line_of_read v xs line r) new xs
+      → b ≡ is_text_of_entry line r.key r.moment e → AcceptsOrRejects b (line_of_read xs line r) new xs
   enter_holds old new e l true h k s by same last here grown counted is =
       (line_of_entry e, entered_is (Some e) by ∙ ap (λ b. if b then Some (line_of_entry e) else None) (sym is), holds_more old new e l h k s by same last here grown counted)
   enter_holds old new e l false h k s by same last here grown counted is = entered_is (Some e) by ∙ ap (λ b. if b then Some (line_of_entry e) else None) (sym is)

@@ -1,6 +1,6 @@
 -- A property of an optional value, of a result, and of a choice.
 use Rattle.std.proofs.Common.{◌≡◌, Bool, true, false, cond, Option, Some, None, Result, Ok, Err, Ordering, Less, Equal, Greater, subst}
-use Rattle.std.specs.Prelude.{⊤, IfSome, option_map, option_and_then}
+use Rattle.std.specs.Prelude.{⊤, IfSome, IfOk, IfErr, option_map, option_and_then}
 use Rattle.std.specs.Option.{option_map_or}
 use Rattle.std.specs.Ordering.{match_ordering}
 use Rattle.std.specs.Result.{result_ok}
@@ -39,6 +39,14 @@ ordering_holds P Equal x y z h g k = g
 ordering_holds P Greater x y z h g k = k
 
 -- ---- results
+
+pub if_ok_then : {A E : Type 0} {P Q : A → Type 0} (r : Result A E) → ((x : A) → P x → Q x) → IfOk r P → IfOk r Q
+if_ok_then (Ok x) f h = f x h
+if_ok_then (Err e) f h = tt
+
+pub if_err_then : {A E : Type 0} {P Q : E → Type 0} (r : Result A E) → ((e : E) → P e → Q e) → IfErr r P → IfErr r Q
+if_err_then (Ok x) f h = tt
+if_err_then (Err e) f h = f e h
 
 abbrev pub IfOkHolds : {A : Type 0} → (A → Type 0) → Result A Code → Type 0
 IfOkHolds P r = IfSome (result_ok r) P

@@ -22,3 +22,8 @@ pub mod PathLimits
 pub mod CompactText
 pub mod CheckStageLemmas
 pub mod ReadBackValues
+pub mod NextEntryLemmas
+pub mod LineValueLemmas
+pub mod JournalItemLemmas
+pub mod JournalLemmas
+mod StoreRunLemmas

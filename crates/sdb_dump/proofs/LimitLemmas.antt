@@ -20,13 +20,11 @@ use Rattle.sdb_oplog.specs.declared.codes.Code.TheVariants.{E1, E2, E3}
 use Rattle.sdb_wire.specs.Wire.{name_value, name_member, count_member, present_member, read_optional, is_type, created_content, edit_content, content_from, is_delete, content_of, key_of}
 use Rattle.sdb_dump.specs.DumpText.{PlainLine, entry_line, AreNextLines}
 use Rattle.sdb_dump.specs.ValueLimits.{IsSafeInteger, ActInLimits, StepsInLimits, ComponentsInLimits}
-use Rattle.sdb_dump.specs.DumpLine.{PlainLineContent, arrived_of_data, submission_of_data, moment_of_data, line_of_data, read_line}
+use Rattle.sdb_dump.specs.DumpLine.{PlainLineContent, arrived_of_data, submission_of_data, line_of_data, read_line}
 use Rattle.sdb_dump.specs.Utf8Facts.{AreTextSteps, IsTextAct, AreTextComponents, IsTextContent, IsTextSubmission, IsTextKey}
-use Rattle.sdb_dump.specs.EntryLimits.{NameInLimits, KeyInLimits, OptionalCountInLimits, ContentInLimits, OpLengthInLimits, SubmissionInLimits, MomentInLimits, AllKeysInLimits}
+use Rattle.sdb_dump.specs.EntryLimits.{NameInLimits, KeyInLimits, OptionalCountInLimits, ContentInLimits, OpLengthInLimits, SubmissionInLimits, AllKeysInLimits}
 use Rattle.sdb_dump.specs.DumpLaws.{AllInLimits}
 use Rattle.sdb_dump.proofs.HoldsLemmas.{opt_then, opt_any, opt_at, cond_holds, IfOkHolds, okay_then, okay_map}
-use Rattle.sdb_dump.specs.declared.version.DumpVersion.{DumpVersion}
-use Rattle.sdb_dump.specs.declared.version.DumpVersion.TheVariants.{One, Two}
 
 okay_or : {A : Type 0} (P : A → Type 0) (o : Option A) (e : Code) → IfSome o P → IfOkHolds P (ok_or o e)
 okay_or P None e h = tt
@@ -106,10 +104,6 @@ key_preserves d =
 abbrev ArrivedWithin : (PlainContent × Option ℕ) → Type 0
 ArrivedWithin a = ContentWithin a.0 × OptionalCountInLimits a.1
 
-moment_preserves : (v : DumpVersion) (d : Data) → IfSome (moment_of_data v d) (MomentInLimits v)
-moment_preserves One d = refl
-moment_preserves Two d = number_preserves (codes "m") d
-
 module _ (reads : ReadStaysInRange) where
   edition_preserves : (d : Data) → IfOkHolds ContentWithin (edit_content d)
   edition_preserves d = okay_map (λ cs. AllInRange cs × (length cs ≤ 256)) ContentWithin edit (op_of d) E3 (reads d) (λ v h. h)
@@ -184,18 +178,18 @@ key_fits d k e h =
 
 -- ---- the moments of lines
 
-read_moment : (v : DumpVersion) (d : Data) → IfSome (line_of_data v d) (λ r. MomentInLimits v r.moment)
-read_moment v d =
-    opt_then (λ _. ⊤) (λ (r : PlainLineContent). MomentInLimits v r.moment) _ (result_ok (key_of d)) (opt_any (result_ok (key_of d))) (λ k _.
-    opt_then (λ _. ⊤) (λ (r : PlainLineContent). MomentInLimits v r.moment) _ (submission_of_data d) (opt_any (submission_of_data d)) (λ s _.
-    opt_then (MomentInLimits v) (λ (r : PlainLineContent). MomentInLimits v r.moment) _ (moment_of_data v d) (moment_preserves v d) (λ m h. h)))
+read_moment : (d : Data) → IfSome (line_of_data d) (λ r. IsSafeInteger r.moment)
+read_moment d =
+    opt_then (λ _. ⊤) (λ (r : PlainLineContent). IsSafeInteger r.moment) _ (result_ok (key_of d)) (opt_any (result_ok (key_of d))) (λ k _.
+    opt_then (λ _. ⊤) (λ (r : PlainLineContent). IsSafeInteger r.moment) _ (submission_of_data d) (opt_any (submission_of_data d)) (λ s _.
+    opt_then IsSafeInteger (λ (r : PlainLineContent). IsSafeInteger r.moment) _ (count_member (codes "m") d) (number_preserves (codes "m") d) (λ m h. h)))
 
-line_moment : (v : DumpVersion) (l : List ℕ) → IfSome (read_line v l) (λ r. MomentInLimits v r.moment)
-line_moment v l =
-    cond_holds (λ o. IfSome o (λ (r : PlainLineContent). MomentInLimits v r.moment)) (is_utf8 l) (option_and_then (line_of_data v) (read l)) None (opt_then (λ _. ⊤) (λ (r : PlainLineContent). MomentInLimits v r.moment) (line_of_data v) (read l) (opt_any (read l)) (λ d _. read_moment v d)) tt
+line_moment : (l : List ℕ) → IfSome (read_line l) (λ r. IsSafeInteger r.moment)
+line_moment l =
+    cond_holds (λ o. IfSome o (λ (r : PlainLineContent). IsSafeInteger r.moment)) (is_utf8 l) (option_and_then line_of_data (read l)) None (opt_then (λ _. ⊤) (λ (r : PlainLineContent). IsSafeInteger r.moment) line_of_data (read l) (opt_any (read l)) (λ d _. read_moment d)) tt
 
 -- accepted lines whose keys and submissions are within the limits
-pub all_within : (v : DumpVersion) (before xs : List PlainLine) → AreNextLines v before xs → AllKeysInLimits xs → AllInLimits v xs
-all_within v before [] n h = tt
-all_within v before (x ∷ xs) n h =
-    (h.0, opt_at (λ (r : PlainLineContent). MomentInLimits v r.moment) (read_line v (entry_line v x)) _ n.0.read (line_moment v (entry_line v x)), h.1, all_within v (before ++ x ∷ []) xs n.1 h.2)
+pub all_within : (before xs : List PlainLine) → AreNextLines before xs → AllKeysInLimits xs → AllInLimits xs
+all_within before [] n h = tt
+all_within before (x ∷ xs) n h =
+    (h.0, opt_at (λ (r : PlainLineContent). IsSafeInteger r.moment) (read_line (entry_line x)) _ n.0.is_next.read (line_moment (entry_line x)), h.1, all_within (before ++ x ∷ []) xs n.1 h.2)

@@ -5,9 +5,8 @@ use Rattle.std.proofs.lemmas.Bool.Decides.{nat_tests}
 use Rattle.sdb_dump.specs.DumpText.{PlainLine, count_line, entry_line, dump_lines, ended_lines, dump_text, check}
 use Rattle.sdb_dump.specs.DumpLaws.{AllInLimits, IsDumpOfLogs}
 use Rattle.sdb_dump.proofs.AcceptLemmas.{AllLinesInLimits, all_fit, dumps_accepted, accepted_next}
-use Rattle.sdb_dump.specs.declared.version.DumpVersion.{DumpVersion}
-use Rattle.sdb_dump.specs.DumpLine.{dump_version_number, written_moment, line_data}
-use Rattle.sdb_dump.proofs.ReadBackEntries.{line_sound, shown_counts}
+use Rattle.sdb_dump.specs.DumpLine.{line_data}
+use Rattle.sdb_dump.proofs.ReadBackEntries.{line_sound}
 use Rattle.sdb_dump.specs.LineSplit.{cons_line, split_lines, check_text}
 use Rattle.sdb_dump.proofs.LineFeedLemmas.{HasNoLineFeed}
 use Rattle.sdb_dump.specs.EntryLimits.{AllKeysInLimits}
@@ -44,31 +43,28 @@ cut_lines : (ls : List (List ℕ)) → HaveNoLineFeeds ls → split_lines [] (en
 cut_lines [] h = refl
 cut_lines (l ∷ ls) h = split_of_line l (ended_lines ls) [] h.0 ∙ ap (cons_line l) (cut_lines ls h.1)
 
-text_lines : (v : DumpVersion) (xs : List PlainLine) (last : List ℕ) → AllLinesInLimits v xs → HasNoLineFeed last → HaveNoLineFeeds (map (entry_line v) xs ++ last ∷ [])
-text_lines v [] last h k = (k, tt)
-text_lines v (x ∷ xs) last h k =
-    let o = written_moment v x.entry.moment in
-    (compact_line (line_data x.key x.entry o) (line_sound v x.key x.entry o h.0 h.1 (shown_counts v x.entry.moment h.1.moment)), text_lines v xs last h.2 k)
+text_lines : (xs : List PlainLine) (last : List ℕ) → AllLinesInLimits xs → HasNoLineFeed last → HaveNoLineFeeds (map entry_line xs ++ last ∷ [])
+text_lines [] last h k = (k, tt)
+text_lines (x ∷ xs) last h k = (compact_line (line_data x.key x.entry) (line_sound x.key x.entry h.0 h.1), text_lines xs last h.2 k)
 
-dump_are_lines : (v : DumpVersion) (xs : List PlainLine) → IsDumpOfLogs xs → AllInLimits v xs → HaveNoLineFeeds (dump_lines v xs)
-dump_are_lines v xs d f = (
-  number_member_line (codes "dump") (dump_version_number v),
-  text_lines v xs (count_line (length xs)) (all_fit v xs d f) (number_member_line (codes "entries") (length xs)),
+dump_are_lines : (xs : List PlainLine) → IsDumpOfLogs xs → AllInLimits xs → HaveNoLineFeeds (dump_lines xs)
+dump_are_lines xs d f = (
+  number_member_line (codes "dump") 2,
+  text_lines xs (count_line (length xs)) (all_fit xs d f) (number_member_line (codes "entries") (length xs)),
 )
 
-pub text_accepted : (v : DumpVersion) (xs : List PlainLine) → IsDumpOfLogs xs → AllInLimits v xs → check_text (dump_text v xs) ≡ Ok xs
-text_accepted v xs d f = ap (λ c. check c.ended c.rest) (cut_lines (dump_lines v xs) (dump_are_lines v xs d f)) ∙ dumps_accepted v xs d f
+pub text_accepted : (xs : List PlainLine) → IsDumpOfLogs xs → AllInLimits xs → check_text (dump_text xs) ≡ Ok xs
+text_accepted xs d f = ap (λ c. check c.ended c.rest) (cut_lines (dump_lines xs) (dump_are_lines xs d f)) ∙ dumps_accepted xs d f
 
 -- an accepted text is a dump, and within the limits if its keys and submissions are
 pub text_next : (t : List ℕ) (xs : List PlainLine) → check_text t ≡ Ok xs
-    → (v : DumpVersion) × (t ≡ dump_text v xs) × IsDumpOfLogs xs × (AllKeysInLimits xs → AllInLimits v xs)
+    → (t ≡ dump_text xs) × IsDumpOfLogs xs × (AllKeysInLimits xs → AllInLimits xs)
 text_next t xs e =
     let d = accepted_next (split_lines [] t).ended (split_lines [] t).rest xs e in (
-      d.0,
-      sym (split_joins_back t []) ∙ ap₂ (λ a b. ended_lines a ++ b) d.1 d.2 ∙ append-nil (ended_lines (dump_lines d.0 xs)),
-      d.4,
-      λ h. all_within d.0 [] xs d.3 h,
+      sym (split_joins_back t []) ∙ ap₂ (λ a b. ended_lines a ++ b) d.0 d.1 ∙ append-nil (ended_lines (dump_lines xs)),
+      d.3,
+      λ h. all_within [] xs d.2 h,
     )
 
-pub text_only : (t : List ℕ) (xs : List PlainLine) → check_text t ≡ Ok xs → (v : DumpVersion) × (t ≡ dump_text v xs) × IsDumpOfLogs xs
-text_only t xs e = let d = text_next t xs e in (d.0, d.1, d.2)
+pub text_only : (t : List ℕ) (xs : List PlainLine) → check_text t ≡ Ok xs → (t ≡ dump_text xs) × IsDumpOfLogs xs
+text_only t xs e = let d = text_next t xs e in (d.0, d.1)

@@ -8,13 +8,13 @@ use Rattle.std.proofs.lemmas.Cmp.{nat_list_cmp_total, tied_itself}
 use Rattle.sdb_oplog.specs.Keys.{PlainKey, Logs, compare_keys, keys_equal}
 use Rattle.sdb_oplog.specs.Plain.{PlainEntry}
 use Rattle.sdb_oplog.specs.Decide.{IsMade}
-use Rattle.sdb_dump.specs.declared.version.DumpVersion.{DumpVersion}
 use Rattle.sdb_dump.specs.DumpText.{PlainLine, log_of_lines, key_not_below, dump_text}
 use Rattle.sdb_dump.specs.DumpLaws.{AllInLimits, KeysAscendFrom, IsDumpOfLogs}
 use Rattle.sdb_dump.specs.LineSplit.{check_text}
 use Rattle.sdb_dump.specs.LogListing.{lines_of_log, lines_of_logs, DumpText}
 use Rattle.sdb_dump.specs.LogDumps.{AreDumpable, TextIsOfLogs}
-use Rattle.sdb_dump.specs.EntryLimits.{KeyInLimits, MomentInLimits, SubmissionInLimits, AllKeysInLimits}
+use Rattle.sdb_dump.specs.ValueLimits.{IsSafeInteger}
+use Rattle.sdb_dump.specs.EntryLimits.{KeyInLimits, SubmissionInLimits, AllKeysInLimits}
 use Rattle.sdb_dump.specs.WriteModel.{HasEntryCount}
 use Rattle.sdb_dump.proofs.AcceptLemmas.{log_append}
 use Rattle.sdb_dump.proofs.StageLemmas.{follows_is, last_more}
@@ -219,29 +219,29 @@ sorted_all x (y ∷ ys) r =
     let (js, s) = sorted_all y ys r.1 in
     sorted_more x (y ∷ ys) y.key js (keys_equal x.key y.key) refl r.0 s
 
-pub dump_of_logs : (v : DumpVersion) (xs : List PlainLine) → IsDumpOfLogs xs → DumpText v (log_of_lines xs) (dump_text v xs)
-dump_of_logs v [] d = ([], record { in_order = sorted_none.order; whole = sorted_none.whole }, refl)
-dump_of_logs v (x ∷ xs) d =
+pub dump_of_logs : (xs : List PlainLine) → IsDumpOfLogs xs → DumpText (log_of_lines xs) (dump_text xs)
+dump_of_logs [] d = ([], record { in_order = sorted_none.order; whole = sorted_none.whole }, refl)
+dump_of_logs (x ∷ xs) d =
     let (ks, s) = sorted_all x xs (lines_rise_of_ascend [] x xs d.ascends.1) in
-    (x.key ∷ ks, record { in_order = s.order; whole = s.whole }, ap (dump_text v) (sym s.list))
+    (x.key ∷ ks, record { in_order = s.order; whole = s.whole }, ap dump_text (sym s.list))
 
-within_append : (v : DumpVersion) (xs ys : List PlainLine) → AllInLimits v xs → AllInLimits v ys → AllInLimits v (xs ++ ys)
-within_append v [] ys h k = k
-within_append v (x ∷ xs) ys h k = (h.0, h.1, h.2, within_append v xs ys h.3 k)
+within_append : (xs ys : List PlainLine) → AllInLimits xs → AllInLimits ys → AllInLimits (xs ++ ys)
+within_append [] ys h k = k
+within_append (x ∷ xs) ys h k = (h.0, h.1, h.2, within_append xs ys h.3 k)
 
-within_logs : (v : DumpVersion) (f : Logs) (ks : List PlainKey) → ((k : PlainKey) → AllInLimits v (lines_of_log k (f k))) → AllInLimits v (lines_of_logs f ks)
-within_logs v f [] h = tt
-within_logs v f (k ∷ ks) h = within_append v (lines_of_log k (f k)) (lines_of_logs f ks) (h k) (within_logs v f ks h)
+within_logs : (f : Logs) (ks : List PlainKey) → ((k : PlainKey) → AllInLimits (lines_of_log k (f k))) → AllInLimits (lines_of_logs f ks)
+within_logs f [] h = tt
+within_logs f (k ∷ ks) h = within_append (lines_of_log k (f k)) (lines_of_logs f ks) (h k) (within_logs f ks h)
 
 -- the log of each key is within the limits
-within_or : (v : DumpVersion) (b : Bool) (k : PlainKey) (x : PlainLine) (es : List PlainEntry) → keys_equal k x.key ≡ b
-    → KeyInLimits x.key → MomentInLimits v x.entry.moment → SubmissionInLimits x.entry.arrived → AllInLimits v (lines_of_log k es) → AllInLimits v (lines_of_log k (cond b (x.entry ∷ es) es))
-within_or v true k x es e key moment sent h = (subst KeyInLimits (sym (eq_of_keys_equal k x.key e)) key, moment, sent, h)
-within_or v false k x es e key moment sent h = h
+within_or : (b : Bool) (k : PlainKey) (x : PlainLine) (es : List PlainEntry) → keys_equal k x.key ≡ b
+    → KeyInLimits x.key → IsSafeInteger x.entry.moment → SubmissionInLimits x.entry.arrived → AllInLimits (lines_of_log k es) → AllInLimits (lines_of_log k (cond b (x.entry ∷ es) es))
+within_or true k x es e key moment sent h = (subst KeyInLimits (sym (eq_of_keys_equal k x.key e)) key, moment, sent, h)
+within_or false k x es e key moment sent h = h
 
-within_log : (v : DumpVersion) (xs : List PlainLine) (k : PlainKey) → AllInLimits v xs → AllInLimits v (lines_of_log k (log_of_lines xs k))
-within_log v [] k h = tt
-within_log v (x ∷ xs) k h = within_or v (keys_equal k x.key) k x (log_of_lines xs k) refl h.0 h.1 h.2 (within_log v xs k h.3)
+within_log : (xs : List PlainLine) (k : PlainKey) → AllInLimits xs → AllInLimits (lines_of_log k (log_of_lines xs k))
+within_log [] k h = tt
+within_log (x ∷ xs) k h = within_or (keys_equal k x.key) k x (log_of_lines xs k) refl h.0 h.1 h.2 (within_log xs k h.3)
 
 -- the number of entries is the number of lines
 pub entries_of_lines : (xs : List PlainLine) → IsDumpOfLogs xs → HasEntryCount (log_of_lines xs) (length xs)
@@ -251,23 +251,22 @@ entries_of_lines (x ∷ xs) d =
     (x.key ∷ ks, record { in_order = s.order; whole = s.whole }, ap length (sym s.list))
 
 pub dumped_lines : (text : List ℕ) (xs : List PlainLine) → check_text text ≡ Ok xs → AllKeysInLimits xs
-    → (v : DumpVersion) × DumpText v (log_of_lines xs) text × AreDumpable v (log_of_lines xs) × HasEntryCount (log_of_lines xs) (length xs)
+    → DumpText (log_of_lines xs) text × AreDumpable (log_of_lines xs) × HasEntryCount (log_of_lines xs) (length xs)
 dumped_lines text xs e h =
     let d = text_next text xs e in (
-      d.0,
-      subst (DumpText d.0 (log_of_lines xs)) (sym d.1) (dump_of_logs d.0 xs d.2),
-      record { made = d.2.made; within = λ k. within_log d.0 xs k (d.3 h) },
-      entries_of_lines xs d.2,
+      subst (DumpText (log_of_lines xs)) (sym d.0) (dump_of_logs xs d.1),
+      record { made = d.1.made; within = λ k. within_log xs k (d.2 h) },
+      entries_of_lines xs d.1,
     )
 
 pub text_is_of_logs : TextIsOfLogs
 text_is_of_logs = record {
-  accepted = λ v f text h (ks, stored, is).
+  accepted = λ f text h (ks, stored, is).
       let xs = lines_of_logs f ks in
       let d = logs_are_dumped f ks stored h.made in
-      (xs, ap check_text is ∙ text_accepted v xs d.0 (within_logs v f ks h.within), d.1);
+      (xs, ap check_text is ∙ text_accepted xs d.0 (within_logs f ks h.within), d.1);
   only = λ text xs e.
-      let (v, is, d) = text_only text xs e in
-      (v, subst (DumpText v (log_of_lines xs)) (sym is) (dump_of_logs v xs d), d.made);
-  within = λ text xs e h. let d = dumped_lines text xs e h in (d.0, d.1, d.2);
+      let (is, d) = text_only text xs e in
+      (subst (DumpText (log_of_lines xs)) (sym is) (dump_of_logs xs d), d.made);
+  within = λ text xs e h. let d = dumped_lines text xs e h in (d.0, d.1);
 }

@@ -1,5 +1,5 @@
 -- The line of an entry parses to its submission.
-use Rattle.std.proofs.Common.{◌≡◌, ℕ, ◌+◌, ◌<◌, ◌≤◌, List, length, Option, Some, None, true, IsUtf8, Ok, refl, sym, ap, ◌∙◌, arith}
+use Rattle.std.proofs.Common.{◌≡◌, ℕ, ◌+◌, ◌<◌, ◌≤◌, List, length, Option, Some, None, true, IsUtf8, Ok, refl, ap, ◌∙◌, arith}
 use Rattle.std.specs.Prelude.{◌^◌, if◌then◌else◌, nat_lt, codes, option_and_then}
 use Rattle.std.proofs.lemmas.Bool.Decides.{nat_tests}
 use Rattle.json.proofs.Printed.Utf8.{are_ascii, IsUtf8-are_ascii}
@@ -23,10 +23,8 @@ use Rattle.sdb_dump.proofs.CompactText.{utf8_compact}
 use Rattle.sdb_dump.proofs.ReadBackValues.{value_sound, value_deep, profile_back}
 use Rattle.sdb_dump.proofs.ReadBackComponents.{count_back, op_back, op_sound, op_deep}
 use Rattle.sdb_dump.specs.DumpText.{PlainLine, entry_line, line_content}
-use Rattle.sdb_dump.specs.declared.version.DumpVersion.{DumpVersion}
-use Rattle.sdb_dump.specs.declared.version.DumpVersion.TheVariants.{One, Two}
-use Rattle.sdb_dump.specs.DumpLine.{written_moment, optional_version_data, arrived_members, arrived_data, content_members_with_moment, line_tail, line_data, arrived_of_data, moment_of_data, line_of_data, read_line}
-use Rattle.sdb_dump.specs.EntryLimits.{NameInLimits, KeyInLimits, MomentInLimits, OptionalCountInLimits, ContentInLimits, OpLengthInLimits, SubmissionInLimits, EntryInLimits}
+use Rattle.sdb_dump.specs.DumpLine.{optional_version_data, arrived_members, arrived_data, content_members_with_moment, line_tail, line_data, arrived_of_data, line_of_data, read_line}
+use Rattle.sdb_dump.specs.EntryLimits.{NameInLimits, KeyInLimits, OptionalCountInLimits, ContentInLimits, OpLengthInLimits, SubmissionInLimits, EntryInLimits}
 
 -- ---- soundness
 
@@ -48,50 +46,37 @@ arrived_sound (create v) w h k = (utf8_of_ascii _ refl, create_sound v h, (refl,
 arrived_sound delete w h k = (utf8_of_ascii _ refl, tt, (refl, tt), (utf8_of_ascii _ refl, k, tt, tt))
 arrived_sound (edit op) w h k = (utf8_of_ascii _ refl, op_sound 50 op h, (refl, tt), (utf8_of_ascii _ refl, k, tt, tt))
 
-tail_sound : (v : DumpVersion) (e : PlainEntry) → EntryInLimits v e → MembersSound (line_tail e)
-tail_sound v e h =
+tail_sound : (e : PlainEntry) → EntryInLimits e → MembersSound (line_tail e)
+tail_sound e h =
     (utf8_of_ascii _ refl, count_sound e.arrived.seq h.arrived.seq, (refl, (refl, (refl, tt))), (utf8_of_ascii _ refl, h.arrived.src.text, (refl, (refl, tt)), (utf8_of_ascii _ refl, count_sound e.version h.version, (refl, tt), (utf8_of_ascii _ refl, h.arrived.via.text, tt, tt))))
 
-mid_sound : (v : DumpVersion) (k : PlainKey) (m : PlainContent) (o : Option ℕ) (e : PlainEntry) → KeyInLimits k → ContentInLimits 100 m → OptionalCountInLimits o → EntryInLimits v e
-    → MembersSound (content_members_with_moment k m o (line_tail e))
-mid_sound u k (create v) None e f c g h =
-    (utf8_of_ascii _ refl, f.collection.text, (refl, (refl, (refl, (refl, (refl, (refl, tt)))))), (utf8_of_ascii _ refl, create_sound v c, (refl, (refl, (refl, (refl, (refl, tt))))), (utf8_of_ascii _ refl, f.id.text, (refl, (refl, (refl, (refl, tt)))), tail_sound u e h)))
-mid_sound u k (create v) (Some n) e f c g h =
-    (utf8_of_ascii _ refl, f.collection.text, (refl, (refl, (refl, (refl, (refl, (refl, (refl, tt))))))), (utf8_of_ascii _ refl, create_sound v c, (refl, (refl, (refl, (refl, (refl, (refl, tt)))))), (utf8_of_ascii _ refl, f.id.text, (refl, (refl, (refl, (refl, (refl, tt))))), (utf8_of_ascii _ refl, count_sound n g, (refl, (refl, (refl, (refl, tt)))), tail_sound u e h))))
-mid_sound u k delete None e f c g h =
-    (utf8_of_ascii _ refl, f.collection.text, (refl, (refl, (refl, (refl, (refl, (refl, tt)))))), (utf8_of_ascii _ refl, f.id.text, (refl, (refl, (refl, (refl, (refl, tt))))), (utf8_of_ascii _ refl, tt, (refl, (refl, (refl, (refl, tt)))), tail_sound u e h)))
-mid_sound u k delete (Some n) e f c g h =
-    (utf8_of_ascii _ refl, f.collection.text, (refl, (refl, (refl, (refl, (refl, (refl, (refl, tt))))))), (utf8_of_ascii _ refl, f.id.text, (refl, (refl, (refl, (refl, (refl, (refl, tt)))))), (utf8_of_ascii _ refl, tt, (refl, (refl, (refl, (refl, (refl, tt))))), (utf8_of_ascii _ refl, count_sound n g, (refl, (refl, (refl, (refl, tt)))), tail_sound u e h))))
-mid_sound u k (edit op) None e f c g h =
-    (utf8_of_ascii _ refl, f.collection.text, (refl, (refl, (refl, (refl, (refl, (refl, tt)))))), (utf8_of_ascii _ refl, f.id.text, (refl, (refl, (refl, (refl, (refl, tt))))), (utf8_of_ascii _ refl, op_sound 100 op c, (refl, (refl, (refl, (refl, tt)))), tail_sound u e h)))
-mid_sound u k (edit op) (Some n) e f c g h =
-    (utf8_of_ascii _ refl, f.collection.text, (refl, (refl, (refl, (refl, (refl, (refl, (refl, tt))))))), (utf8_of_ascii _ refl, f.id.text, (refl, (refl, (refl, (refl, (refl, (refl, tt)))))), (utf8_of_ascii _ refl, count_sound n g, (refl, (refl, (refl, (refl, (refl, tt))))), (utf8_of_ascii _ refl, op_sound 100 op c, (refl, (refl, (refl, (refl, tt)))), tail_sound u e h))))
+mid_sound : (k : PlainKey) (m : PlainContent) (e : PlainEntry) → KeyInLimits k → ContentInLimits 100 m → EntryInLimits e
+    → MembersSound (content_members_with_moment k m e.moment (line_tail e))
+mid_sound k (create v) e f c h =
+    (utf8_of_ascii _ refl, f.collection.text, (refl, (refl, (refl, (refl, (refl, (refl, (refl, tt))))))), (utf8_of_ascii _ refl, create_sound v c, (refl, (refl, (refl, (refl, (refl, (refl, tt)))))), (utf8_of_ascii _ refl, f.id.text, (refl, (refl, (refl, (refl, (refl, tt))))), (utf8_of_ascii _ refl, count_sound e.moment h.moment, (refl, (refl, (refl, (refl, tt)))), tail_sound e h))))
+mid_sound k delete e f c h =
+    (utf8_of_ascii _ refl, f.collection.text, (refl, (refl, (refl, (refl, (refl, (refl, (refl, tt))))))), (utf8_of_ascii _ refl, f.id.text, (refl, (refl, (refl, (refl, (refl, (refl, tt)))))), (utf8_of_ascii _ refl, tt, (refl, (refl, (refl, (refl, (refl, tt))))), (utf8_of_ascii _ refl, count_sound e.moment h.moment, (refl, (refl, (refl, (refl, tt)))), tail_sound e h))))
+mid_sound k (edit op) e f c h =
+    (utf8_of_ascii _ refl, f.collection.text, (refl, (refl, (refl, (refl, (refl, (refl, (refl, tt))))))), (utf8_of_ascii _ refl, f.id.text, (refl, (refl, (refl, (refl, (refl, (refl, tt)))))), (utf8_of_ascii _ refl, count_sound e.moment h.moment, (refl, (refl, (refl, (refl, (refl, tt))))), (utf8_of_ascii _ refl, op_sound 100 op c, (refl, (refl, (refl, (refl, tt)))), tail_sound e h))))
 
-arrived_first : (k : PlainKey) (m : PlainContent) (o : Option ℕ) (e : PlainEntry) → IsKeyBelowAll (codes "arrived") (content_members_with_moment k m o (line_tail e))
-arrived_first k (create v) None e = (refl, (refl, (refl, (refl, (refl, (refl, (refl, tt)))))))
-arrived_first k (create v) (Some n) e = (refl, (refl, (refl, (refl, (refl, (refl, (refl, (refl, tt))))))))
-arrived_first k delete None e = (refl, (refl, (refl, (refl, (refl, (refl, (refl, tt)))))))
-arrived_first k delete (Some n) e = (refl, (refl, (refl, (refl, (refl, (refl, (refl, (refl, tt))))))))
-arrived_first k (edit op) None e = (refl, (refl, (refl, (refl, (refl, (refl, (refl, tt)))))))
-arrived_first k (edit op) (Some n) e = (refl, (refl, (refl, (refl, (refl, (refl, (refl, (refl, tt))))))))
+arrived_first : (k : PlainKey) (m : PlainContent) (e : PlainEntry) → IsKeyBelowAll (codes "arrived") (content_members_with_moment k m e.moment (line_tail e))
+arrived_first k (create v) e = (refl, (refl, (refl, (refl, (refl, (refl, (refl, (refl, tt))))))))
+arrived_first k delete e = (refl, (refl, (refl, (refl, (refl, (refl, (refl, (refl, tt))))))))
+arrived_first k (edit op) e = (refl, (refl, (refl, (refl, (refl, (refl, (refl, (refl, tt))))))))
 
-by_first : (k : PlainKey) (m : PlainContent) (o : Option ℕ) (e : PlainEntry) → IsKeyBelowAll (codes "by") (content_members_with_moment k m o (line_tail e))
-by_first k (create v) None e = (refl, (refl, (refl, (refl, (refl, (refl, (refl, tt)))))))
-by_first k (create v) (Some n) e = (refl, (refl, (refl, (refl, (refl, (refl, (refl, (refl, tt))))))))
-by_first k delete None e = (refl, (refl, (refl, (refl, (refl, (refl, (refl, tt)))))))
-by_first k delete (Some n) e = (refl, (refl, (refl, (refl, (refl, (refl, (refl, (refl, tt))))))))
-by_first k (edit op) None e = (refl, (refl, (refl, (refl, (refl, (refl, (refl, tt)))))))
-by_first k (edit op) (Some n) e = (refl, (refl, (refl, (refl, (refl, (refl, (refl, (refl, tt))))))))
+by_first : (k : PlainKey) (m : PlainContent) (e : PlainEntry) → IsKeyBelowAll (codes "by") (content_members_with_moment k m e.moment (line_tail e))
+by_first k (create v) e = (refl, (refl, (refl, (refl, (refl, (refl, (refl, (refl, tt))))))))
+by_first k delete e = (refl, (refl, (refl, (refl, (refl, (refl, (refl, (refl, tt))))))))
+by_first k (edit op) e = (refl, (refl, (refl, (refl, (refl, (refl, (refl, (refl, tt))))))))
 
-pub line_sound : (v : DumpVersion) (k : PlainKey) (e : PlainEntry) (o : Option ℕ) → KeyInLimits k → EntryInLimits v e → OptionalCountInLimits o
-    → IsSoundData (line_data k e o)
-line_sound v k e o f h g =
+pub line_sound : (k : PlainKey) (e : PlainEntry) → KeyInLimits k → EntryInLimits e → IsSoundData (line_data k e)
+line_sound k e f h =
     let s = h.arrived in
     let came = arrived_sound e.arrived.content (optional_version_data e.arrived.version) s.content (version_sound e.arrived.version s.version) in (
       utf8_of_ascii _ refl,
       came,
-      (refl, arrived_first k e.content o e),
-      (utf8_of_ascii _ refl, count_sound e.arrived.by s.by, by_first k e.content o e, mid_sound v k e.content o e f h.content g h),
+      (refl, arrived_first k e.content e),
+      (utf8_of_ascii _ refl, count_sound e.arrived.by s.by, by_first k e.content e, mid_sound k e.content e f h.content h),
     )
 
 -- ---- depth
@@ -111,18 +96,15 @@ arrived_deep (create v) w h k = omega (arith, create_deep v h, k)
 arrived_deep delete w h k = omega (arith, k)
 arrived_deep (edit op) w h k = omega (arith, edit_deep 50 op (omega arith) h, k)
 
-mid_deep : (k : PlainKey) (m : PlainContent) (o : Option ℕ) (e : PlainEntry) → ContentInLimits 100 m → raw.members_depth (content_members_with_moment k m o (line_tail e)) ≤ 102
-mid_deep k (create v) None e c = omega (arith, create_deep v c)
-mid_deep k (create v) (Some n) e c = omega (arith, create_deep v c)
-mid_deep k delete None e c = omega arith
-mid_deep k delete (Some n) e c = omega arith
-mid_deep k (edit op) None e c = omega (arith, edit_deep 100 op (omega arith) c)
-mid_deep k (edit op) (Some n) e c = omega (arith, edit_deep 100 op (omega arith) c)
+mid_deep : (k : PlainKey) (m : PlainContent) (e : PlainEntry) → ContentInLimits 100 m → raw.members_depth (content_members_with_moment k m e.moment (line_tail e)) ≤ 102
+mid_deep k (create v) e c = omega (arith, create_deep v c)
+mid_deep k delete e c = omega arith
+mid_deep k (edit op) e c = omega (arith, edit_deep 100 op (omega arith) c)
 
-line_deep : (v : DumpVersion) (k : PlainKey) (e : PlainEntry) (o : Option ℕ) → EntryInLimits v e → raw.depth (line_data k e o) ≤ max_depth
-line_deep v k e o h =
+line_deep : (k : PlainKey) (e : PlainEntry) → EntryInLimits e → raw.depth (line_data k e) ≤ max_depth
+line_deep k e h =
     let a = arrived_deep e.arrived.content (optional_version_data e.arrived.version) h.arrived.content (version_flat e.arrived.version) in
-    let b = mid_deep k e.content o e h.content in
+    let b = mid_deep k e.content e h.content in
     omega (arith, a, b)
 
 -- ---- parsing
@@ -157,31 +139,18 @@ HasMembersOf d k e =
     (get (codes "arrived") d ≡ Some (arrived_data e.arrived)) × (get (codes "by") d ≡ Some (number (unsigned e.arrived.by)))
     × (get (codes "c") d ≡ Some (string k.collection)) × (get (codes "d") d ≡ Some (string k.id))
     × (get (codes "seq") d ≡ Some (number (unsigned e.arrived.seq))) × (get (codes "src") d ≡ Some (string e.arrived.src))
-    × (get (codes "via") d ≡ Some (string e.arrived.via))
+    × (get (codes "via") d ≡ Some (string e.arrived.via)) × (get (codes "m") d ≡ Some (number (unsigned e.moment)))
 
-line_has : (k : PlainKey) (m : PlainContent) (o : Option ℕ) (e : PlainEntry)
-    → HasMembersOf (object (member (codes "arrived") (arrived_data e.arrived) (member (codes "by") (number (unsigned e.arrived.by)) (content_members_with_moment k m o (line_tail e))))) k e
-line_has k (create v) None e = (refl, refl, refl, refl, refl, refl, refl)
-line_has k (create v) (Some n) e = (refl, refl, refl, refl, refl, refl, refl)
-line_has k delete None e = (refl, refl, refl, refl, refl, refl, refl)
-line_has k delete (Some n) e = (refl, refl, refl, refl, refl, refl, refl)
-line_has k (edit op) None e = (refl, refl, refl, refl, refl, refl, refl)
-line_has k (edit op) (Some n) e = (refl, refl, refl, refl, refl, refl, refl)
+line_has : (k : PlainKey) (m : PlainContent) (e : PlainEntry)
+    → HasMembersOf (object (member (codes "arrived") (arrived_data e.arrived) (member (codes "by") (number (unsigned e.arrived.by)) (content_members_with_moment k m e.moment (line_tail e))))) k e
+line_has k (create v) e = (refl, refl, refl, refl, refl, refl, refl, refl)
+line_has k delete e = (refl, refl, refl, refl, refl, refl, refl, refl)
+line_has k (edit op) e = (refl, refl, refl, refl, refl, refl, refl, refl)
 
-shown_moment_at : (k : PlainKey) (m : PlainContent) (n : ℕ) (e : PlainEntry)
-    → get (codes "m") (object (member (codes "arrived") (arrived_data e.arrived) (member (codes "by") (number (unsigned e.arrived.by)) (content_members_with_moment k m (Some n) (line_tail e))))) ≡ Some (number (unsigned n))
-shown_moment_at k (create v) n e = refl
-shown_moment_at k delete n e = refl
-shown_moment_at k (edit op) n e = refl
-
-moment_back : (v : DumpVersion) (k : PlainKey) (e : PlainEntry) → MomentInLimits v e.moment
-    → moment_of_data v (line_data k e (written_moment v e.moment)) ≡ Some e.moment
-moment_back One k e h = ap Some (sym h)
-moment_back Two k e h = rw (shown_moment_at k e.content e.moment e, count_back e.moment h) refl
-
-line_by : (v : DumpVersion) (d : Data) (k : PlainKey) (e : PlainEntry) → HasMembersOf d k e → moment_of_data v d ≡ Some e.moment → KeyInLimits k → SubmissionInLimits e.arrived
-    → line_of_data v d ≡ Some (record { key = k; submission = e.arrived; moment = e.moment })
-line_by v d k e has when f s =
+line_by : (d : Data) (k : PlainKey) (e : PlainEntry) → HasMembersOf d k e → KeyInLimits k → EntryInLimits e
+    → line_of_data d ≡ Some (record { key = k; submission = e.arrived; moment = e.moment })
+line_by d k e has f h =
+    let s = h.arrived in
     rw (
       has.2,
       has.3,
@@ -197,20 +166,16 @@ line_by v d k e has when f s =
       name_back e.arrived.via s.via,
       has.1,
       count_back e.arrived.by s.by,
-      when,
+      has.7,
+      count_back e.moment h.moment,
     ) refl
 
-pub shown_counts : (v : DumpVersion) (m : ℕ) → MomentInLimits v m → OptionalCountInLimits (written_moment v m)
-shown_counts One m h = tt
-shown_counts Two m h = h
-
-pub line_reads_back : (v : DumpVersion) (x : PlainLine) → KeyInLimits x.key → EntryInLimits v x.entry → read_line v (entry_line v x) ≡ Some (line_content x)
-line_reads_back v x f h =
+pub line_reads_back : (x : PlainLine) → KeyInLimits x.key → EntryInLimits x.entry → read_line (entry_line x) ≡ Some (line_content x)
+line_reads_back x f h =
     let k = x.key in
     let e = x.entry in
-    let o = written_moment v e.moment in
-    let d = line_data k e o in
-    let sound = line_sound v k e o f h (shown_counts v e.moment h.moment) in
-    ap (λ b. if b then option_and_then (line_of_data v) (read (compact_text d)) else None) (is_utf8-from_IsUtf8 (compact_text d) (utf8_compact d sound))
-    ∙ ap (option_and_then (line_of_data v)) (read_compact d sound (line_deep v k e o h))
-    ∙ line_by v d k e (line_has k e.content o e) (moment_back v k e h.moment) f h.arrived
+    let d = line_data k e in
+    let sound = line_sound k e f h in
+    ap (λ b. if b then option_and_then line_of_data (read (compact_text d)) else None) (is_utf8-from_IsUtf8 (compact_text d) (utf8_compact d sound))
+    ∙ ap (option_and_then line_of_data) (read_compact d sound (line_deep k e h))
+    ∙ line_by d k e (line_has k e.content e) f h

@@ -9,7 +9,6 @@ use Rattle.sdb_dump.specs.CheckStages.{PlainStage, stages_result}
 use Rattle.sdb_dump.specs.WriteModel.{HasEntryCount}
 use Rattle.sdb_dump.specs.declared.checker.CheckedDump.{CheckedDump}
 use Rattle.sdb_dump.specs.declared.checker.Checker.{Checker}
-use Rattle.sdb_dump.specs.declared.version.DumpVersion.{DumpVersion}
 
 -- the result for a text, from a stage and the bytes of a pending line
 abbrev pub check_result_from : PlainStage → List ℕ → List ℕ → Result (List PlainLine) ℕ
@@ -22,9 +21,8 @@ CheckContinues s line_buffer input c partial =
 
 -- the text is the dump of the accepted logs
 pub record AcceptsText (c : CheckedDump) (t : List ℕ) : Type 0 where
-  pub version : DumpVersion
-  pub text : DumpText version (accepted_logs c) t
+  pub text : DumpText (accepted_logs c) t
   -- the logs are made and within the limits
-  pub dumped : AreDumpable version (accepted_logs c)
+  pub dumped : AreDumpable (accepted_logs c)
   pub documents : HasDocumentCount (accepted_logs c) c.documents
   pub entries : HasEntryCount (accepted_logs c) c.entries

@@ -7,7 +7,7 @@ use Rattle.sdb_oplog.specs.Keys.{PlainKey, Logs, compare_keys, keys_equal, plain
 use Rattle.sdb_oplog.specs.Plain.{PlainEntry}
 use Rattle.sdb_oplog.specs.declared.keys.Key.{Key}
 use Rattle.sdb_dump.specs.DumpText.{PlainLine, key_not_below, log_of_lines}
-use Rattle.sdb_dump.specs.CheckStages.{PlainStage, head, body, done, wrong}
+use Rattle.sdb_dump.specs.CheckStages.{PlainStage, head, body, done}
 use Rattle.sdb_dump.specs.EntryLimits.{AllKeysInLimits}
 use Rattle.sdb_dump.specs.declared.checker.CheckedDump.{CheckedDump}
 use Rattle.sdb_dump.specs.declared.checker.Checker.{Checker}
@@ -63,17 +63,9 @@ TakesDocument xs k c (Some log) = CheckerContinues xs k log c
 
 abbrev pub IsAtStage : Stage → PlainStage → Checker → Type 0
 IsAtStage Header head c = CheckerHolds c []
-IsAtStage Header (body w xs) c = ⊥
-IsAtStage Header (done xs) c = ⊥
-IsAtStage Header (wrong n) c = ⊥
-IsAtStage (Body v) head c = ⊥
-IsAtStage (Body v) (body w xs) c = (v ≡ w) × CheckerHolds c xs
-IsAtStage (Body v) (done xs) c = ⊥
-IsAtStage (Body v) (wrong n) c = ⊥
-IsAtStage End head c = ⊥
-IsAtStage End (body w xs) c = ⊥
+IsAtStage Body (body xs) c = CheckerHolds c xs
 IsAtStage End (done xs) c = CheckerHolds c xs
-IsAtStage End (wrong n) c = ⊥
+IsAtStage _ _ c = ⊥
 
 -- the checker is at this stage
 abbrev pub CheckerAtStage : Checker → PlainStage → Type 0

@@ -5,9 +5,8 @@ use Rattle.sdb_transform.specs.declared.side.Side.{Side}
 use Rattle.sdb_transform.specs.Transform.{transform}
 use Rattle.sdb_oplog.specs.Keys.{PlainKey}
 use Rattle.sdb_oplog.specs.Decide.{IsMade}
-use Rattle.sdb_dump.specs.ValueLimits.{ComponentInLimits, ComponentsInLimits}
-use Rattle.sdb_dump.specs.declared.version.DumpVersion.{DumpVersion}
-use Rattle.sdb_dump.specs.EntryLimits.{KeyInLimits, MomentInLimits, SubmissionInLimits}
+use Rattle.sdb_dump.specs.ValueLimits.{IsSafeInteger, ComponentInLimits, ComponentsInLimits}
+use Rattle.sdb_dump.specs.EntryLimits.{KeyInLimits, SubmissionInLimits}
 use Rattle.sdb_dump.specs.DumpText.{PlainLine, log_of_lines, key_not_below, dump_lines, check}
 
 abbrev pub TransformKeepsLimits : Type 0
@@ -21,10 +20,10 @@ KeysAscendFrom before [] = ⊤
 KeysAscendFrom before (x ∷ xs) = (key_not_below before x.key ≡ true) × KeysAscendFrom (before ++ x ∷ []) xs
 
 -- keys, moments and submissions are within the limits
-abbrev pub AllInLimits : DumpVersion → List PlainLine → Type 0
-AllInLimits v [] = ⊤
-AllInLimits v (x ∷ xs) =
-    KeyInLimits x.key × MomentInLimits v x.entry.moment × SubmissionInLimits x.entry.arrived × AllInLimits v xs
+abbrev pub AllInLimits : List PlainLine → Type 0
+AllInLimits [] = ⊤
+AllInLimits (x ∷ xs) =
+    KeyInLimits x.key × IsSafeInteger x.entry.moment × SubmissionInLimits x.entry.arrived × AllInLimits xs
 
 -- the entries of made logs, key by key
 pub record IsDumpOfLogs (xs : List PlainLine) : Type 0 where
@@ -33,11 +32,10 @@ pub record IsDumpOfLogs (xs : List PlainLine) : Type 0 where
 
 -- the lines of made logs within the limits are accepted and give those logs
 abbrev pub DumpsOfLogsAccepted : Type 0
-DumpsOfLogsAccepted =
-    (v : DumpVersion) (xs : List PlainLine) → IsDumpOfLogs xs → AllInLimits v xs → check (dump_lines v xs) [] ≡ Ok xs
+DumpsOfLogsAccepted = (xs : List PlainLine) → IsDumpOfLogs xs → AllInLimits xs → check (dump_lines xs) [] ≡ Ok xs
 
 -- accepted lines are those of made logs
 abbrev pub AcceptedAreDumpsOfLogs : Type 0
 AcceptedAreDumpsOfLogs =
     (ls : List (List ℕ)) (rest : List ℕ) (xs : List PlainLine) → check ls rest ≡ Ok xs
-    → (v : DumpVersion) × (ls ≡ dump_lines v xs) × (rest ≡ []) × IsDumpOfLogs xs
+    → (ls ≡ dump_lines xs) × (rest ≡ []) × IsDumpOfLogs xs

@@ -5,25 +5,12 @@ use Rattle.std.specs.Str.{is_utf8}
 use Rattle.serde_json.specs.Data.{Data, null, boolean, number, unsigned, string, object, Members, no_members, member}
 use Rattle.serde_json.specs.Find.{get}
 use Rattle.serde_json.specs.Read.{read}
-use Rattle.serde_json.specs.Written.{compact_text}
 use Rattle.sdb_component.specs.ToJson.{op_data}
 use Rattle.sdb_oplog.specs.Keys.{PlainKey}
 use Rattle.sdb_oplog.specs.Plain.{PlainContent, create, delete, edit, PlainSubmission, PlainEntry}
 use Rattle.sdb_value.specs.FromJson.{count_of}
 use Rattle.sdb_wire.specs.Answers.{create_data}
-use Rattle.sdb_dump.specs.declared.version.DumpVersion.{DumpVersion}
-use Rattle.sdb_dump.specs.declared.version.DumpVersion.TheVariants.{One, Two}
 use Rattle.sdb_wire.specs.Wire.{key_of, name_member, count_member, read_optional, present_member, content_of}
-
--- version 1 has no moments, and they are 0; version 2 has them
-abbrev pub dump_version_number : DumpVersion → ℕ
-dump_version_number One = 1
-dump_version_number Two = 2
-
--- the moment, if the version of the dump contains it
-abbrev pub written_moment : DumpVersion → ℕ → Option ℕ
-written_moment One m = None
-written_moment Two m = Some m
 
 -- ---- writing: members in byte order
 
@@ -40,23 +27,23 @@ arrived_members (edit op) w = member (codes "op") (op_data op) (member (codes "v
 abbrev pub arrived_data : PlainSubmission → Data
 arrived_data s = object (arrived_members s.content (optional_version_data s.version))
 
-abbrev pub push_moment : Option ℕ → Members → Members
-push_moment None ms = ms
-push_moment (Some m) ms = member (codes "m") (number (unsigned m)) ms
-
-abbrev pub content_members_with_moment : PlainKey → PlainContent → Option ℕ → Members → Members
-content_members_with_moment k (create v) o ms =
+-- the key, the stored content and the moment
+abbrev pub content_members_with_moment : PlainKey → PlainContent → ℕ → Members → Members
+content_members_with_moment k (create v) m ms =
     member (codes "c") (string k.collection)
     (member (codes "create") (create_data v)
-    (member (codes "d") (string k.id) (push_moment o ms)))
-content_members_with_moment k delete o ms =
+    (member (codes "d") (string k.id)
+    (member (codes "m") (number (unsigned m)) ms)))
+content_members_with_moment k delete m ms =
     member (codes "c") (string k.collection)
     (member (codes "d") (string k.id)
-    (member (codes "del") (boolean true) (push_moment o ms)))
-content_members_with_moment k (edit op) o ms =
+    (member (codes "del") (boolean true)
+    (member (codes "m") (number (unsigned m)) ms)))
+content_members_with_moment k (edit op) m ms =
     member (codes "c") (string k.collection)
     (member (codes "d") (string k.id)
-    (push_moment o (member (codes "op") (op_data op) ms)))
+    (member (codes "m") (number (unsigned m))
+    (member (codes "op") (op_data op) ms)))
 
 abbrev pub line_tail : PlainEntry → Members
 line_tail e =
@@ -65,15 +52,11 @@ line_tail e =
     (member (codes "v") (number (unsigned e.version))
     (member (codes "via") (string e.arrived.via) no_members)))
 
-abbrev pub line_data : PlainKey → PlainEntry → Option ℕ → Data
-line_data k e o = object (
+abbrev pub line_data : PlainKey → PlainEntry → Data
+line_data k e = object (
     member (codes "arrived") (arrived_data e.arrived)
     (member (codes "by") (number (unsigned e.arrived.by))
-    (content_members_with_moment k e.content o (line_tail e))))
-
--- the line without its line feed
-abbrev pub line_text : PlainKey → PlainEntry → Option ℕ → List ℕ
-line_text k e o = compact_text (line_data k e o)
+    (content_members_with_moment k e.content e.moment (line_tail e))))
 
 -- ---- parsing
 
@@ -95,24 +78,23 @@ abbrev pub submission_of_data : Data → Option PlainSubmission
 submission_of_data d =
     option_and_then (λ a. option_and_then (sent_of_data d a) (count_member (codes "seq") d)) (option_and_then arrived_of_data (get (codes "arrived") d))
 
--- the moment, or 0 if the version has no moments
-abbrev pub moment_of_data : DumpVersion → Data → Option ℕ
-moment_of_data One d = Some 0
-moment_of_data Two d = count_member (codes "m") d
-
 -- the content of a line: a submission of a key, and the moment at which it was stored
 pub record PlainLineContent : Type 0 where
   pub key : PlainKey
   pub submission : PlainSubmission
   pub moment : ℕ
 
-abbrev pub line_of_data : DumpVersion → Data → Option PlainLineContent
-line_of_data v d =
+abbrev pub line_of_data : Data → Option PlainLineContent
+line_of_data d =
     option_and_then (λ k. option_and_then (λ s. option_and_then (λ m. Some (record { key = k; submission = s; moment = m }))
-    (moment_of_data v d))
+    (count_member (codes "m") d))
     (submission_of_data d))
     (result_ok (key_of d))
 
--- the content of a line; one that isn't UTF-8 has none
-abbrev pub read_line : DumpVersion → List ℕ → Option PlainLineContent
-read_line v line = if is_utf8 line then option_and_then (line_of_data v) (read line) else None
+-- the value of a line's data; a line that isn't UTF-8 or JSON has none
+abbrev pub value_of_line : {A : Type 0} → (Data → Option A) → List ℕ → Option A
+value_of_line f line = if is_utf8 line then option_and_then f (read line) else None
+
+-- the content of a line
+abbrev pub read_line : List ℕ → Option PlainLineContent
+read_line = value_of_line line_of_data

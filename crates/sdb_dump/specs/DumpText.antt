@@ -8,9 +8,7 @@ use Rattle.serde_json.specs.Written.{compact_text}
 use Rattle.sdb_oplog.specs.Decide.{decide}
 use Rattle.sdb_oplog.specs.Keys.{PlainKey, compare_keys, keys_equal}
 use Rattle.sdb_oplog.specs.Plain.{PlainSubmission, PlainEntry}
-use Rattle.sdb_dump.specs.declared.version.DumpVersion.{DumpVersion}
-use Rattle.sdb_dump.specs.declared.version.DumpVersion.TheVariants.{One, Two}
-use Rattle.sdb_dump.specs.DumpLine.{dump_version_number, written_moment, line_text, PlainLineContent, read_line}
+use Rattle.sdb_dump.specs.DumpLine.{line_data, PlainLineContent, read_line}
 
 -- an entry of the log of a key
 pub record PlainLine : Type 0 where
@@ -19,26 +17,26 @@ pub record PlainLine : Type 0 where
 
 -- ---- the text
 
-abbrev pub header_line : DumpVersion → List ℕ
-header_line v = compact_text (object (member (codes "dump") (number (unsigned (dump_version_number v))) no_members))
+abbrev pub header_line : List ℕ
+header_line = compact_text (object (member (codes "dump") (number (unsigned 2)) no_members))
 
 abbrev pub count_line : ℕ → List ℕ
 count_line n = compact_text (object (member (codes "entries") (number (unsigned n)) no_members))
 
-abbrev pub entry_line : DumpVersion → PlainLine → List ℕ
-entry_line v x = line_text x.key x.entry (written_moment v x.entry.moment)
+abbrev pub entry_line : PlainLine → List ℕ
+entry_line x = compact_text (line_data x.key x.entry)
 
 -- the lines of a dump, without their line feeds
-abbrev pub dump_lines : DumpVersion → List PlainLine → List (List ℕ)
-dump_lines v xs = header_line v ∷ (map (entry_line v) xs ++ count_line (length xs) ∷ [])
+abbrev pub dump_lines : List PlainLine → List (List ℕ)
+dump_lines xs = header_line ∷ (map entry_line xs ++ count_line (length xs) ∷ [])
 
 -- the lines, each with its line feed
 abbrev pub ended_lines : List (List ℕ) → List ℕ
 ended_lines [] = []
 ended_lines (l ∷ ls) = l ++ 10 ∷ ended_lines ls
 
-abbrev pub dump_text : DumpVersion → List PlainLine → List ℕ
-dump_text v xs = ended_lines (dump_lines v xs)
+abbrev pub dump_text : List PlainLine → List ℕ
+dump_text xs = ended_lines (dump_lines xs)
 
 -- ---- lines that are a dump
 
@@ -55,17 +53,21 @@ key_not_below (x ∷ y ∷ xs) k = key_not_below (y ∷ xs) k
 abbrev pub line_content : PlainLine → PlainLineContent
 line_content x = record { key = x.key; submission = x.entry.arrived; moment = x.entry.moment }
 
--- the line's key isn't less than the last one, its entry is what `decide` stores for its submission at its moment, and
--- the line parses to these
-pub record IsNextLine (v : DumpVersion) (before : List PlainLine) (x : PlainLine) : Type 0 where
-  pub ascends : key_not_below before x.key ≡ true
+-- the entry is what `decide` stores for its submission, at its moment, on the entries before it, and its line parses to
+-- these
+pub record IsNextEntry (before : List PlainLine) (x : PlainLine) : Type 0 where
   pub decided : (decide (log_of_lines before x.key) x.entry.arrived x.entry.moment).log
       ≡ log_of_lines before x.key ++ x.entry ∷ []
-  pub read : read_line v (entry_line v x) ≡ Some (line_content x)
+  pub read : read_line (entry_line x) ≡ Some (line_content x)
 
-abbrev pub AreNextLines : DumpVersion → List PlainLine → List PlainLine → Type 0
-AreNextLines v before [] = ⊤
-AreNextLines v before (x ∷ xs) = IsNextLine v before x × AreNextLines v (before ++ x ∷ []) xs
+-- the line's key isn't less than the last one, and its entry may be the next one
+pub record IsNextLine (before : List PlainLine) (x : PlainLine) : Type 0 where
+  pub ascends : key_not_below before x.key ≡ true
+  pub is_next : IsNextEntry before x
+
+abbrev pub AreNextLines : List PlainLine → List PlainLine → Type 0
+AreNextLines before [] = ⊤
+AreNextLines before (x ∷ xs) = IsNextLine before x × AreNextLines (before ++ x ∷ []) xs
 
 -- ---- the checker
 
@@ -74,25 +76,27 @@ abbrev pub decided_entry : List PlainEntry → PlainSubmission → ℕ → Optio
 decided_entry log s now = slice_get (decide log s now).log (length log)
 
 -- the entry of the key has this moment, and its line is this text
-abbrev pub is_text_of_entry : DumpVersion → List ℕ → PlainKey → ℕ → PlainEntry → Bool
-is_text_of_entry v line k m e = nat_eq e.moment m && bytes_eq (entry_line v (record { key = k; entry = e })) line
+abbrev pub is_text_of_entry : List ℕ → PlainKey → ℕ → PlainEntry → Bool
+is_text_of_entry line k m e = nat_eq e.moment m && bytes_eq (entry_line (record { key = k; entry = e })) line
 
 -- this entry, if it has the parsed moment and its line is this text
-abbrev pub line_of_entry_cond : DumpVersion → List ℕ → PlainLineContent → PlainEntry → Option PlainLine
-line_of_entry_cond v line r e =
-    if is_text_of_entry v line r.key r.moment e
+abbrev pub line_of_entry_cond : List ℕ → PlainLineContent → PlainEntry → Option PlainLine
+line_of_entry_cond line r e =
+    if is_text_of_entry line r.key r.moment e
     then Some (record { key = r.key; entry = e })
     else None
 
--- the entry that the parsed submission stores, if its line is this text
-abbrev pub line_of_read : DumpVersion → List PlainLine → List ℕ → PlainLineContent → Option PlainLine
-line_of_read v before line r =
-    if key_not_below before r.key
-    then option_and_then (line_of_entry_cond v line r) (decided_entry (log_of_lines before r.key) r.submission r.moment)
-    else None
+-- the entry that the parsed submission stores on the log of its key, if its line is this text
+abbrev pub entry_of_read : List PlainEntry → List ℕ → PlainLineContent → Option PlainLine
+entry_of_read log line r = option_and_then (line_of_entry_cond line r) (decided_entry log r.submission r.moment)
 
-abbrev pub accepted_line : DumpVersion → List PlainLine → List ℕ → Option PlainLine
-accepted_line v before line = option_and_then (line_of_read v before line) (read_line v line)
+-- the same, if the key isn't less than that of the last line
+abbrev pub line_of_read : List PlainLine → List ℕ → PlainLineContent → Option PlainLine
+line_of_read before line r =
+    if key_not_below before r.key then entry_of_read (log_of_lines before r.key) line r else None
+
+abbrev pub accepted_line : List PlainLine → List ℕ → Option PlainLine
+accepted_line before line = option_and_then (line_of_read before line) (read_line line)
 
 -- no line follows the count
 abbrev pub check_end : List PlainLine → ℕ → List (List ℕ) → List ℕ → Result (List PlainLine) ℕ
@@ -100,20 +104,13 @@ check_end xs n [] [] = Ok xs
 check_end xs n _ _ = Err n
 
 -- the check from line n on: the lines with a line feed, and the bytes after the last one
-abbrev pub check_from : DumpVersion → List PlainLine → ℕ → List (List ℕ) → List ℕ → Result (List PlainLine) ℕ
-check_from v xs n [] rest = Err n
-check_from v xs n (l ∷ ls) rest =
+abbrev pub check_from : List PlainLine → ℕ → List (List ℕ) → List ℕ → Result (List PlainLine) ℕ
+check_from xs n [] rest = Err n
+check_from xs n (l ∷ ls) rest =
     if bytes_eq l (count_line (length xs)) then check_end xs (n + 1) ls rest
-    else option_map_or (λ x. check_from v (xs ++ x ∷ []) (n + 1) ls rest) (accepted_line v xs l) (Err n)
+    else option_map_or (λ x. check_from (xs ++ x ∷ []) (n + 1) ls rest) (accepted_line xs l) (Err n)
 
 -- the entries, or the number of the first wrong line
 abbrev pub check : List (List ℕ) → List ℕ → Result (List PlainLine) ℕ
 check [] rest = Err 1
-check (l ∷ ls) rest =
-    if bytes_eq l (header_line One) then check_from One [] 2 ls rest
-    else (if bytes_eq l (header_line Two) then check_from Two [] 2 ls rest else Err 1)
-
--- the version of a dump that begins with this line
-abbrev pub version_of : List ℕ → Option DumpVersion
-version_of l =
-    if bytes_eq l (header_line One) then Some One else (if bytes_eq l (header_line Two) then Some Two else None)
+check (l ∷ ls) rest = if bytes_eq l header_line then check_from [] 2 ls rest else Err 1

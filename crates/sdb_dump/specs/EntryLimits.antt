@@ -1,12 +1,10 @@
 -- The limits of keys, submissions and entries.
-use Rattle.std.specs.Prelude.{◌≡◌, ℕ, ◌<◌, ◌≤◌, List, [], ◌∷◌, length, Option, Some, None, ⊤}
+use Rattle.std.specs.Prelude.{ℕ, ◌<◌, ◌≤◌, List, [], ◌∷◌, length, Option, Some, None, ⊤}
 use Rattle.std.specs.Str.{IsUtf8}
 use Rattle.sdb_oplog.specs.Keys.{PlainKey}
 use Rattle.sdb_oplog.specs.Plain.{PlainContent, create, delete, edit, PlainSubmission, PlainEntry}
 use Rattle.sdb_dump.specs.DumpText.{PlainLine}
 use Rattle.sdb_dump.specs.ValueLimits.{IsSafeInteger, ValueInLimits, ComponentsInLimits}
-use Rattle.sdb_dump.specs.declared.version.DumpVersion.{DumpVersion}
-use Rattle.sdb_dump.specs.declared.version.DumpVersion.TheVariants.{One, Two}
 
 -- 1 to 200 bytes of UTF-8 (RFC 3629)
 pub record NameInLimits (s : List ℕ) : Type 0 where
@@ -43,14 +41,9 @@ pub record SubmissionInLimits (s : PlainSubmission) : Type 0 where
   pub via : NameInLimits s.via
   pub by : IsSafeInteger s.by
 
--- a moment is a safe integer, and 0 in version 1
-abbrev pub MomentInLimits : DumpVersion → ℕ → Type 0
-MomentInLimits One m = m ≡ 0
-MomentInLimits Two m = IsSafeInteger m
-
-pub record EntryInLimits (v : DumpVersion) (e : PlainEntry) : Type 0 where
+pub record EntryInLimits (e : PlainEntry) : Type 0 where
   pub version : IsSafeInteger e.version
-  pub moment : MomentInLimits v e.moment
+  pub moment : IsSafeInteger e.moment
   pub content : ContentInLimits 100 e.content
   pub arrived : SubmissionInLimits e.arrived
 

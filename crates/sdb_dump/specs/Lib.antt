@@ -15,5 +15,9 @@ pub mod Utf8Facts
 pub mod View
 pub mod EntryLimits
 pub mod WriteModel
+pub mod JournalText
+pub mod JournalLaws
+pub mod StoreMachine
+pub mod StoreMachineLaws
 pub mod laws
 pub mod worked

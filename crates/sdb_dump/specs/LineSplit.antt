@@ -1,6 +1,5 @@
 -- A text split at its line feeds.
 use Rattle.std.specs.Prelude.{◌≡◌, ℕ, List, [], ◌∷◌, ◌++◌, ◌==◌, if◌then◌else◌, Result, Ok}
-use Rattle.sdb_dump.specs.declared.version.DumpVersion.{DumpVersion}
 use Rattle.sdb_dump.specs.DumpText.{PlainLine, dump_text, check}
 use Rattle.sdb_dump.specs.DumpLaws.{AllInLimits, IsDumpOfLogs}
 
@@ -20,7 +19,5 @@ abbrev pub check_text : List ℕ → Result (List PlainLine) ℕ
 check_text t = check (split_lines [] t).ended (split_lines [] t).rest
 
 pub record TextIsExact : Type 0 where
-  pub accepted : (v : DumpVersion) (xs : List PlainLine) → IsDumpOfLogs xs → AllInLimits v xs
-      → check_text (dump_text v xs) ≡ Ok xs
-  pub only : (t : List ℕ) (xs : List PlainLine) → check_text t ≡ Ok xs
-      → (v : DumpVersion) × (t ≡ dump_text v xs) × IsDumpOfLogs xs
+  pub accepted : (xs : List PlainLine) → IsDumpOfLogs xs → AllInLimits xs → check_text (dump_text xs) ≡ Ok xs
+  pub only : (t : List ℕ) (xs : List PlainLine) → check_text t ≡ Ok xs → (t ≡ dump_text xs) × IsDumpOfLogs xs

@@ -4,7 +4,6 @@ use Rattle.sdb_desk.specs.StoredKeys.{IsKeyList}
 use Rattle.sdb_oplog.specs.Decide.{IsMade}
 use Rattle.sdb_oplog.specs.Keys.{PlainKey, Logs}
 use Rattle.sdb_oplog.specs.Plain.{PlainEntry}
-use Rattle.sdb_dump.specs.declared.version.DumpVersion.{DumpVersion}
 use Rattle.sdb_dump.specs.DumpText.{PlainLine, log_of_lines, dump_text}
 use Rattle.sdb_dump.specs.DumpLaws.{IsDumpOfLogs}
 
@@ -17,8 +16,8 @@ lines_of_logs f [] = []
 lines_of_logs f (k ∷ ks) = lines_of_log k (f k) ++ lines_of_logs f ks
 
 -- the text is the dump of these logs
-abbrev pub DumpText : DumpVersion → Logs → List ℕ → Type 0
-DumpText v f text = (ks : List PlainKey) × IsKeyList f ks × (text ≡ dump_text v (lines_of_logs f ks))
+abbrev pub DumpText : Logs → List ℕ → Type 0
+DumpText f text = (ks : List PlainKey) × IsKeyList f ks × (text ≡ dump_text (lines_of_logs f ks))
 
 -- the lines of made logs are a dump of these logs
 abbrev pub LogsAreDumped : Type 0

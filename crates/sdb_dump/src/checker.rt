@@ -1,10 +1,10 @@
 //! The checker of a dump's lines.
-ghost use Rattle.std.specs.Prelude.{◌≡◌, ◌+◌, ◌^◌, ◌<◌, ◌≤◌, List, [], Option, None, OnOk, IfOk, IfErr, IfSome, IsErrOf, option_map, unwrap_or, string_bytes, Ok};
+ghost use Rattle.std.specs.Prelude.{◌≡◌, ◌+◌, ◌^◌, ◌<◌, ◌≤◌, List, [], Option, None, OnOk, IfOk, IfErr, IfSome, IsErrOf, option_map, unwrap_or, string_bytes, bytes_eq, Ok};
 ghost use Rattle.std.specs.BTreeMap.{insert_entry};
 ghost use Rattle.sdb_oplog.specs.Decide.{IsMade};
 ghost use Rattle.sdb_oplog.specs.Keys.{compare_keys, plain_key};
 ghost use Rattle.sdb_dump.specs.CheckerModel.{CheckerAtStage, AcceptsOrRejects, AcceptedHasAll, CheckerHolds, TakesDocument, accepted_logs};
-ghost use Rattle.sdb_dump.specs.DumpText.{PlainLine, count_line, accepted_line, line_of_read, version_of};
+ghost use Rattle.sdb_dump.specs.DumpText.{PlainLine, header_line, count_line, accepted_line, line_of_read};
 ghost use Rattle.sdb_dump.specs.Faults.{IsDumpFault, IsStageFault};
 ghost use Rattle.sdb_dump.specs.View.{plain_line_content};
 ghost use Rattle.sdb_dump.specs.EntryLimits.{KeyInLimits, SubmissionInLimits};
@@ -15,7 +15,6 @@ ghost use Rattle.sdb_dump.specs.declared.checker.DumpFault.TheVariants.{OutOfMem
 use crate::decided_line::{append_decided, is_line_of};
 use crate::dump_line::{LineContent, read_line};
 use crate::made_log::MadeLog;
-use crate::version::DumpVersion;
 use sdb_oplog::{DecidedLog, Key, Log};
 use std::alloc::{AllocError, Global};
 use std::cmp::Ordering;
@@ -73,7 +72,7 @@ impl CheckedDump {
 #[derive(Clone, Copy, Drop)]
 enum Stage {
     Header,
-    Body(DumpVersion),
+    Body,
     End,
 }
 
@@ -120,7 +119,7 @@ impl Checker {
     {
         match self.stage {
             Stage::Header => self.check_header(line),
-            Stage::Body(version) => self.check_body(version, line),
+            Stage::Body => self.check_body(line),
             Stage::End => Err(self.wrong_line(3)),
         }
     }
@@ -134,15 +133,16 @@ impl Checker {
             → IsStageFault f (stage_after_line s line.now)) }
         ensures never_read_failed { IsErrOf result DumpFault.ReadFailed → ⊥ }
     {
-        let Some(version) = version_of(line) else {
-            return Err(DumpFault::WrongLine { line: 1 });
-        };
-        self.stage = Stage::Body(version);
-        Ok(())
+        if is_header(line) {
+            self.stage = Stage::Body;
+            Ok(())
+        } else {
+            Err(DumpFault::WrongLine { line: 1 })
+        }
     }
 
-    fn check_body(&mut self, version: DumpVersion, line: &[u8]) -> Result<(), DumpFault>
-        requires stage { self.old.stage ≡ Body version }
+    fn check_body(&mut self, line: &[u8]) -> Result<(), DumpFault>
+        requires stage { self.old.stage ≡ Body }
         requires counter_bound { self.old.entries + 3 < 2 ^ 64 }
         ensures bound { OnOk result (self.new.entries ≤ self.old.entries + 1) }
         ensures taken { OnOk result ((s : PlainStage) → CheckerAtStage self.old s
@@ -157,7 +157,7 @@ impl Checker {
             return Ok(());
         }
         let wrong = self.wrong_line(2);
-        if self.accept_entry(version, line)? {
+        if self.accept_entry(line)? {
             Ok(())
         } else {
             Err(wrong)
@@ -165,33 +165,28 @@ impl Checker {
     }
 
     // Appends the line's entry. Returns `false` if the line isn't one that may be next.
-    fn accept_entry(&mut self, version: DumpVersion, line: &[u8]) -> Result<bool, AllocError>
+    fn accept_entry(&mut self, line: &[u8]) -> Result<bool, AllocError>
         requires counter_bound { self.old.entries + 3 < 2 ^ 64 }
         ensures bound { self.new.entries ≤ self.old.entries + 1 }
         ensures stage_unchanged { self.new.stage ≡ self.old.stage }
         ensures accepted { IfOk result (λ b. (xs : List PlainLine) → CheckerHolds self.old xs →
-            AcceptsOrRejects b (accepted_line version xs line.now) self.new xs) }
+            AcceptsOrRejects b (accepted_line xs line.now) self.new xs) }
     {
-        match read_line(self.alloc, version, line)? {
-            Some(read) => self.check_entry(version, line, read),
+        match read_line(self.alloc, line)? {
+            Some(read) => self.check_entry(line, read),
             None => Ok(false),
         }
     }
 
     // Appends the entry that the line's submission stores. Returns `false` if the entry's line
     // differs.
-    fn check_entry(
-        &mut self,
-        version: DumpVersion,
-        line: &[u8],
-        read: LineContent,
-    ) -> Result<bool, AllocError>
+    fn check_entry(&mut self, line: &[u8], read: LineContent) -> Result<bool, AllocError>
         requires counter_bound { self.old.entries + 3 < 2 ^ 64 }
         requires in_limits { KeyInLimits (plain_key read.key) × SubmissionInLimits read.submission }
         ensures bound { self.new.entries ≤ self.old.entries + 1 }
         ensures stage_unchanged { self.new.stage ≡ self.old.stage }
         ensures accepted { IfOk result (λ b. (xs : List PlainLine) → CheckerHolds self.old xs →
-            AcceptsOrRejects b (line_of_read version xs line.now (plain_line_content read)) self.new xs) }
+            AcceptsOrRejects b (line_of_read xs line.now (plain_line_content read)) self.new xs) }
     {
         let LineContent {
             key,
@@ -206,7 +201,7 @@ impl Checker {
         let Some(entry) = document.log().get(at) else {
             return Ok(false);
         };
-        let is_right = is_line_of(self.alloc, version, line, &key, entry, moment)?;
+        let is_right = is_line_of(self.alloc, line, &key, entry, moment)?;
         self.last = Some(LastDocument { key, document });
         self.entries += 1;
         Ok(is_right)
@@ -258,7 +253,7 @@ impl Checker {
     {
         match self.stage {
             Stage::Header => Err(DumpFault::WrongLine { line: 1 }),
-            Stage::Body(_) => Err(self.wrong_line(2)),
+            Stage::Body => Err(self.wrong_line(2)),
             Stage::End if !rest.is_empty() => Err(self.wrong_line(3)),
             Stage::End => self.accept(),
         }
@@ -291,17 +286,10 @@ impl Checker {
     }
 }
 
-// Returns the version of a dump that begins with this line.
-fn version_of(line: &[u8]) -> Option<DumpVersion>
-    ensures { result ≡ version_of line.now }
+fn is_header(line: &[u8]) -> bool
+    ensures { result ≡ bytes_eq line.now header_line }
 {
-    if line == br#"{"dump":1}"#.as_slice() {
-        Some(DumpVersion::One)
-    } else if line == br#"{"dump":2}"#.as_slice() {
-        Some(DumpVersion::Two)
-    } else {
-        None
-    }
+    line == br#"{"dump":2}"#.as_slice()
 }
 
 /// Returns the last line of a dump with `count` entries.

@@ -4,18 +4,14 @@ ghost use Rattle.sdb_oplog.specs.Decide.{decide};
 ghost use Rattle.sdb_oplog.specs.Keys.{plain_key};
 ghost use Rattle.sdb_dump.specs.DumpText.{is_text_of_entry};
 
-use crate::dump_line::line_text;
-use crate::version::DumpVersion;
+use crate::dump_line::entry_line;
 use sdb_oplog::{DecidedLog, Entry, Key, Moment, Rejection, Submission};
 use sdb_wire::refusal_code;
 use std::alloc::{AllocError, Global};
 
-/// Decides a submission at a moment, and appends its entry to the log unless it is rejected.
-///
-/// # Errors
-///
-/// [`AllocError`] if an allocation fails. The log is then unspecified.
-pub fn append_decided(
+// Decides a submission at a moment, and appends its entry to the log unless it is rejected. After
+// an error the log is unspecified.
+pub(crate) fn append_decided(
     alloc: Global,
     log: &mut DecidedLog,
     submission: Submission,
@@ -40,16 +36,15 @@ pub fn append_decided(
 /// [`AllocError`] if an allocation fails.
 pub fn is_line_of(
     alloc: Global,
-    version: DumpVersion,
     line: &[u8],
     key: &Key,
     entry: &Entry,
     moment: Moment,
 ) -> Result<bool, AllocError>
-    ensures { IfOk result (λ b. b ≡ is_text_of_entry version line.now (plain_key key.now) moment entry.now) }
+    ensures { IfOk result (λ b. b ≡ is_text_of_entry line.now (plain_key key.now) moment entry.now) }
 {
     if entry.moment().milliseconds() != moment.milliseconds() {
         return Ok(false);
     }
-    Ok(line_text(alloc, version, key, entry)?.as_slice() == line)
+    Ok(entry_line(alloc, key, entry)?.as_slice() == line)
 }

@@ -4,20 +4,21 @@ ghost use Rattle.json.specs.Print.{print};
 ghost use Rattle.serde_json.specs.Data.{Data, Members, member, no_members};
 ghost use Rattle.sdb_value.specs.ToJson.{data_tokens, object_tail_tokens};
 ghost use Rattle.sdb_oplog.specs.Keys.{plain_key};
-ghost use Rattle.sdb_dump.specs.DumpLine.{written_moment, arrived_members, arrived_data, push_moment, content_members_with_moment, line_tail, line_data, line_text, arrived_of_data, sent_of_data, submission_of_data, moment_of_data, line_of_data, read_line};
+ghost use Rattle.sdb_wire.specs.Wire.{count_member};
+ghost use Rattle.sdb_dump.specs.DumpLine.{arrived_members, arrived_data, content_members_with_moment, line_tail, line_data, arrived_of_data, sent_of_data, submission_of_data, line_of_data, read_line};
+ghost use Rattle.sdb_dump.specs.DumpText.{PlainLine, entry_line};
 ghost use Rattle.sdb_dump.specs.EntryLimits.{KeyInLimits, SubmissionInLimits};
 ghost use Rattle.sdb_dump.specs.View.{plain_line_content, IsNoneIfRefused};
 
 use crate::utf8_facts::{key_texts, submission_texts};
-use crate::version::DumpVersion;
 use json::Writer;
 use sdb_component::laws::read_keeps_limits;
 use sdb_component::write_op;
 use sdb_json::{JsonData, Scratch, parse_json};
 use sdb_oplog::{Code, Content, Entry, Key, Kind, Moment, Submission};
 use sdb_wire::{
-    count_field, moment_of as moment_in, optional_count, read_content, read_key, refusal_code,
-    required_name, write_count, write_create, write_text,
+    count_field, moment_of, optional_count, read_content, read_key, refusal_code, required_name,
+    write_count, write_create, write_text,
 };
 use std::alloc::{AllocError, Global};
 use std::mem;
@@ -38,64 +39,42 @@ pub struct LineContent {
 /// # Errors
 ///
 /// [`AllocError`] if an allocation fails.
-pub fn line_text(
-    alloc: Global,
-    version: DumpVersion,
-    key: &Key,
-    entry: &Entry,
-) -> Result<Vec<u8>, AllocError>
-    ensures { IfOk result (λ v. v.items ≡
-        line_text (plain_key key.now) entry.now (written_moment version (entry.now).moment)) }
+pub fn entry_line(alloc: Global, key: &Key, entry: &Entry) -> Result<Vec<u8>, AllocError>
+    ensures { IfOk result (λ line. line.items ≡
+        entry_line (record { key = plain_key key.now; entry = entry.now })) }
 {
     let mut line = Vec::with_capacity(alloc, LINE_LEN)?;
-    append_line(alloc, version, key, entry, &mut line)?;
+    append_line(alloc, key, entry, &mut line)?;
     Ok(line)
 }
 
 /// Appends the line of an entry of the document. After an error `out` is unspecified.
 pub(crate) fn append_line(
     alloc: Global,
-    version: DumpVersion,
     key: &Key,
     entry: &Entry,
     out: &mut Vec<u8>,
 ) -> Result<(), AllocError>
     ensures { OnOk result (out.new.items ≡ out.old.items ++
-        line_text (plain_key key.now) entry.now (written_moment version (entry.now).moment)) }
+        entry_line (record { key = plain_key key.now; entry = entry.now })) }
 {
     let mut writer = Writer::new(mem::replace(out, Vec::new(alloc)));
-    write_line(version, key, entry, &mut writer)?;
+    write_line(key, entry, &mut writer)?;
     *out = writer.into_inner();
     Ok(())
 }
 
-fn write_line(
-    version: DumpVersion,
-    key: &Key,
-    entry: &Entry,
-    out: &mut Writer,
-) -> Result<(), AllocError>
+fn write_line(key: &Key, entry: &Entry, out: &mut Writer) -> Result<(), AllocError>
     ensures tokens { OnOk result (out.new.tokens ≡ out.old.tokens ++ data_tokens
-        (line_data (plain_key key.now) entry.now (written_moment version (entry.now).moment))) }
+        (line_data (plain_key key.now) entry.now)) }
     ensures before_unchanged { out.new.before ≡ out.old.before }
 {
     out.begin_object()?;
     out.key("arrived")?;
     write_arrived(entry.arrived(), out)?;
     write_count("by", entry.arrived().by(), out)?;
-    let moment = written_moment(version, entry.moment());
-    write_content(key, entry.content(), moment, out)?;
+    write_content(key, entry.content(), entry.moment(), out)?;
     write_tail(entry, out)
-}
-
-// Returns the moment if the version of the dump contains it.
-fn written_moment(version: DumpVersion, moment: Moment) -> Option<Moment>
-    ensures { result ≡ written_moment version moment }
-{
-    match version {
-        DumpVersion::One => None,
-        DumpVersion::Two => Some(moment),
-    }
 }
 
 // Writes the submitted content and the base version.
@@ -139,7 +118,7 @@ fn write_arrived_content(content: &Content, out: &mut Writer) -> Result<(), Allo
 fn write_content(
     key: &Key,
     content: &Content,
-    moment: Option<Moment>,
+    moment: Moment,
     out: &mut Writer,
 ) -> Result<(), AllocError>
     ensures tokens { OnOk result ((rest : Members) → out.new.tokens ++ object_tail_tokens rest
@@ -153,32 +132,20 @@ fn write_content(
             out.key("create")?;
             write_create(value, out)?;
             write_text("d", key.id.as_str(), out)?;
-            write_moment(moment, out)
+            write_count("m", moment.milliseconds(), out)
         }
         Kind::Delete => {
             write_text("d", key.id.as_str(), out)?;
             out.key("del")?;
             out.boolean(true)?;
-            write_moment(moment, out)
+            write_count("m", moment.milliseconds(), out)
         }
         Kind::Edit(op) => {
             write_text("d", key.id.as_str(), out)?;
-            write_moment(moment, out)?;
+            write_count("m", moment.milliseconds(), out)?;
             out.key("op")?;
             write_op(op, out)
         }
-    }
-}
-
-// Writes the moment, if there is one.
-fn write_moment(moment: Option<Moment>, out: &mut Writer) -> Result<(), AllocError>
-    ensures tokens { OnOk result ((rest : Members) → out.new.tokens ++ object_tail_tokens rest
-        ≡ out.old.tokens ++ object_tail_tokens (push_moment moment rest)) }
-    ensures before_unchanged { out.new.before ≡ out.old.before }
-{
-    match moment {
-        Some(moment) => write_count("m", moment.milliseconds(), out),
-        None => Ok(()),
     }
 }
 
@@ -199,12 +166,8 @@ fn write_tail(entry: &Entry, out: &mut Writer) -> Result<(), AllocError>
 /// # Errors
 ///
 /// [`AllocError`] if an allocation fails.
-pub fn read_line(
-    alloc: Global,
-    version: DumpVersion,
-    line: &[u8],
-) -> Result<Option<LineContent>, AllocError>
-    ensures read { IfOk result (λ l. option_map plain_line_content l ≡ read_line version line.now) }
+pub fn read_line(alloc: Global, line: &[u8]) -> Result<Option<LineContent>, AllocError>
+    ensures read { IfOk result (λ l. option_map plain_line_content l ≡ read_line line.now) }
     ensures in_limits { IfOk result (λ l. IfSome l (λ l. KeyInLimits (plain_key l.key)
         × SubmissionInLimits l.submission)) }
 {
@@ -213,17 +176,13 @@ pub fn read_line(
     };
     let mut scratch = Scratch::new(alloc);
     match parse_json(alloc, text, &mut scratch)? {
-        Some(value) => read_line_data(alloc, version, &value),
+        Some(value) => read_line_data(alloc, &value),
         None => Ok(None),
     }
 }
 
-fn read_line_data<D: JsonData>(
-    alloc: Global,
-    version: DumpVersion,
-    value: &D,
-) -> Result<Option<LineContent>, AllocError>
-    ensures line { IfOk result (λ l. option_map plain_line_content l ≡ line_of_data version (D.json value.now)) }
+fn read_line_data<D: JsonData>(alloc: Global, value: &D) -> Result<Option<LineContent>, AllocError>
+    ensures line { IfOk result (λ l. option_map plain_line_content l ≡ line_of_data (D.json value.now)) }
     ensures in_limits { IfOk result (λ l. IfSome l (λ l. KeyInLimits (plain_key l.key)
         × SubmissionInLimits l.submission)) }
 {
@@ -234,7 +193,7 @@ fn read_line_data<D: JsonData>(
     let Some(submission) = read_submission(alloc, value)? else {
         return Ok(None);
     };
-    let Some(moment) = read_moment(version, value) else {
+    let Some(moment) = read_moment(value) else {
         return Ok(None);
     };
     key_texts(&key);
@@ -246,13 +205,10 @@ fn read_line_data<D: JsonData>(
     }))
 }
 
-fn read_moment<D: JsonData>(version: DumpVersion, value: &D) -> Option<Moment>
-    ensures { result ≡ moment_of_data version (D.json value.now) }
+fn read_moment<D: JsonData>(value: &D) -> Option<Moment>
+    ensures { result ≡ count_member (codes "m") (D.json value.now) }
 {
-    match version {
-        DumpVersion::One => Some(Moment::zero()),
-        DumpVersion::Two => moment_in(value.get("m")?),
-    }
+    moment_of(value.get("m")?)
 }
 
 fn read_submission<D: JsonData>(alloc: Global, value: &D) -> Result<Option<Submission>, AllocError>

@@ -1,4 +1,4 @@
-//! Laws of dumps, as contracts of functions without effect.
+//! Laws of dumps and journals, as contracts of functions without effect.
 ghost use Rattle.sdb_dump.specs.DumpLaws.{TransformKeepsLimits, DumpsOfLogsAccepted, AcceptedAreDumpsOfLogs};
 ghost use Rattle.sdb_dump.specs.LineSplit.{TextIsExact};
 ghost use Rattle.sdb_dump.specs.CheckLaws.{CheckIsExact, LineReadsBack};
@@ -6,6 +6,8 @@ ghost use Rattle.sdb_dump.specs.LogListing.{LogsAreDumped};
 ghost use Rattle.sdb_dump.specs.LogDumps.{DocumentsAreBounded, TextIsOfLogs};
 ghost use Rattle.sdb_dump.specs.PrintLaws.{PrintedReadsBack, PrintedIsText};
 ghost use Rattle.sdb_dump.specs.CheckStages.{StagesAreCheck};
+ghost use Rattle.sdb_dump.specs.JournalLaws.{JournalIsExact, JournalLogsAreMade, ItemsAreNext};
+ghost use Rattle.sdb_dump.specs.StoreMachineLaws.{RunsAreDurable, RestartsKeepSent};
 
 /// States that the compact text of sound data is UTF-8 and parses to those data.
 pub fn printed_reads_back()
@@ -62,4 +64,28 @@ pub fn documents_are_bounded()
 /// of what was parsed.
 pub fn text_is_of_logs()
     ensures { TextIsOfLogs }
+{}
+
+/// States that the lines of a journal restore exactly its items, and that other lines are refused
+/// at the first wrong one.
+pub fn journal_is_exact()
+    ensures { JournalIsExact }
+{}
+
+/// States that the logs of a journal are made.
+pub fn journal_logs_are_made()
+    ensures { JournalLogsAreMade }
+{}
+
+/// States that an entry that `decide` stores on the logs of a journal, within the limits, may be its
+/// next item, and so may a block of numbers up to 2^53 - 1.
+pub fn items_are_next()
+    ensures { ItemsAreNext }
+{}
+
+/// States what holds after each run of a server that saves entries before it sends them, and that a
+/// restart removes no entry that was sent.
+pub fn store_runs_are_durable()
+    ensures durable { RunsAreDurable }
+    ensures restart { RestartsKeepSent }
 {}

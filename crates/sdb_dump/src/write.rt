@@ -11,7 +11,6 @@ ghost use Rattle.sdb_dump.specs.WriteModel.{HasEntryCount, WroteUpTo, WroteDump,
 
 use crate::checker::count_line;
 use crate::dump_line::append_line;
-use crate::version::DumpVersion;
 use sdb_lines::{RunFault, Sink, flush_buffer};
 use sdb_oplog::{Entry, Key, Log};
 use std::alloc::{AllocError, Global};
@@ -37,8 +36,8 @@ pub trait DumpSource {
         ensures { unwrap_or (option_map (λ l. l.now) result) [] ≡ logs self.now (plain_key key.now) };
 }
 
-/// Writes the dump of all logs in version 2, flushes it, and returns its number of entries. It
-/// writes blocks of 64 KiB plus at most one line.
+/// Writes the dump of all logs, flushes it, and returns its number of entries. It writes blocks of
+/// 64 KiB plus at most one line.
 ///
 /// # Errors
 ///
@@ -131,7 +130,7 @@ fn write_log<W: Sink>(
     ensures never_read_failed { IsErrOf result RunFault.ReadFailed → ⊥ }
 {
     for entry in entries {
-        append_line(alloc, DumpVersion::Two, key, entry, out)?;
+        append_line(alloc, key, entry, out)?;
         out.extend_from_slice(b"\n")?;
         flush_if_full(out, writer)?;
     }

@@ -1,7 +1,7 @@
 -- The effect of a step on the session's queue of one key and on other queues.
-use Rattle.std.proofs.Common.{◌≡◌, ℕ, ◌+◌, ◌<◌, ◌≤◌, List, [], ◌∷◌, ◌++◌, length, Bool, true, false, cond, nat_eq, nat_lt, Option, Some, None, Result, Ok, Err, ◌⊎◌, inl, inr, refl, sym, ap, ◌∙◌, subst, unwrap_or, option_map, IfOk, OnErr, arith}
+use Rattle.std.proofs.Common.{◌≡◌, ℕ, ◌+◌, ◌<◌, ◌≤◌, List, [], ◌∷◌, ◌++◌, length, length-append, Bool, true, false, cond, nat_eq, nat_lt, Option, Some, None, Result, Ok, Err, ◌⊎◌, inl, inr, refl, sym, ap, ◌∙◌, subst, unwrap_or, option_map, IfOk, OnErr, arith}
 use Rattle.std.proofs.lemmas.Bool.{eq-eqb}
-use Rattle.std.specs.Option.{option_map_or}
+use Rattle.std.specs.Option.{is_some, option_map_or}
 use Rattle.std.specs.Result.{is_ok}
 use Rattle.sdb_oplog.specs.declared.codes.Code.{Code}
 use Rattle.sdb_oplog.specs.declared.codes.Code.TheVariants.{E1, E2, E3, E4, E5, E6, E7, E8, E9, E10, E11}
@@ -10,7 +10,7 @@ use Rattle.sdb_oplog.specs.Keys.{PlainKey, keys_equal}
 use Rattle.sdb_oplog.specs.Snap.{document_of}
 use Rattle.sdb_oplog.specs.Refusal.{result_and_then}
 use Rattle.sdb_oplog.specs.Decide.{decide_allocates}
-use Rattle.sdb_subscribe.specs.Queue.{PlainQueue, PlainQueues, queue_at, is_queue_of, is_open_by, pending_entries, advance, queues_after_take, take_result, remove_queue}
+use Rattle.sdb_subscribe.specs.Queue.{PlainQueue, PlainQueues, queue_at, is_queue_of, is_open_by, replace_queue, pending_entries, advance, queues_after_take, take_result, remove_queue}
 use Rattle.sdb_subscribe.specs.laws.QueueLaws.{queue_at_opened_other, queue_at_taken, queue_at_taken_other, queue_at_removed_other}
 use Rattle.sdb_oplog.specs.Keys.{with_value_at_key}
 use Rattle.sdb_desk.specs.laws.MapLaws.{updated_at_same}
@@ -24,7 +24,7 @@ use Rattle.sdb_steps.specs.Picks.{SessionState, PlainStepAnswer, reply_answer, n
 use Rattle.sdb_steps.specs.Dispatch.{FollowsEffect, DispatchesAct, AttemptCommits, AttemptBegins, AttemptWorks}
 use Rattle.sdb_steps.specs.StateView.{position_in_queues}
 use Rattle.sdb_steps.specs.QueuePosition.{QueuePosition, position_of_queue, advance_position as read_on}
-use Rattle.sdb_steps.specs.Slots.{PlainQueueSlots, SlotsOpen, OtherQueuesUnchanged, close_in}
+use Rattle.sdb_steps.specs.Slots.{PlainQueueSlots, SlotsOpen, OtherQueuesUnchanged, close_in, count_in_slot}
 use Rattle.sdb_steps.specs.View.{plain_start, start_refusal_answer, snapshot_refusal_answer}
 
 -- ---- a change at one key
@@ -56,6 +56,9 @@ module _ (i : ℕ) (q r : QueuesByKey) (s t : PlainQueueSlots) (k : PlainKey) (q
 
   abbrev SlotsOpenAfter : Type 0
   SlotsOpenAfter = (n : ℕ) → o ≡ Some n → (n < queues_after.next) × (is_open_by i n queues_after.queues ≡ true)
+
+  abbrev IsCountedAtKey : Type 0
+  IsCountedAtKey = length queues_after.queues + count_in_slot (s k) ≡ length (q k).queues + count_in_slot o
 
   at_key_same : (j : PlainKey) → keys_equal k j ≡ true → r j ≡ queues_after
   at_key_same j is = at_key q r k queues_after j hr is
@@ -92,13 +95,26 @@ module _ (i : ℕ) (q r : QueuesByKey) (s t : PlainQueueSlots) (k : PlainKey) (q
   now_if h j n true is at = subst (λ (z : PlainQueues). (n < z.next) × (is_open_by i n z.queues ≡ true)) (sym (at_key_same j is)) (h n (sym (at_key s t k o j ht is) ∙ at))
   now_if h j n false is at = subst (λ (z : PlainQueues). (n < z.next) × (is_open_by i n z.queues ≡ true)) (sym (at_other_key j is)) (are_open j n (sym (after_key s t k o j ht is) ∙ at))
 
+  count_if : IsCountedAtKey → (j : PlainKey) (b : Bool) → keys_equal k j ≡ b → length (r j).queues + count_in_slot (s j) ≡ length (q j).queues + count_in_slot (t j)
+  count_if h j true is =
+      let w = ap (λ (z : PlainQueues). length z.queues) (at_key_same j is) in
+      let x = ap (λ (z : PlainQueues). length z.queues) (same_queues j is) in
+      let y = ap count_in_slot (same_slot j is) in
+      let z = ap count_in_slot (at_key s t k o j ht is) in
+      omega (arith, h, w, x, y, z)
+  count_if h j false is =
+      let w = ap (λ (z : PlainQueues). length z.queues) (at_other_key j is) in
+      let z = ap count_in_slot (after_key s t k o j ht is) in
+      omega (arith, w, z)
+
   -- the frame of the other sessions
-  pub leaves_at : NextNotLower → OtherQueuesSame → OwnQueueOrNew → SlotsOpenAfter → OtherQueuesUnchanged i q s r t
-  leaves_at grows others own now = record {
+  pub leaves_at : NextNotLower → OtherQueuesSame → OwnQueueOrNew → SlotsOpenAfter → IsCountedAtKey → OtherQueuesUnchanged i q s r t
+  leaves_at grows others own now counted = record {
     next_not_lower = λ j. grow_if grows j (keys_equal k j) refl;
     others = λ j n. others_if others j n (keys_equal k j) refl;
     own_or_new = λ j n. own_if own j n (keys_equal k j) refl;
     now = λ j n. now_if now j n (keys_equal k j) refl;
+    counted = λ j. count_if counted j (keys_equal k j) refl;
   }
 
 -- if nothing changes
@@ -108,6 +124,10 @@ leaves_all i q r s t opens hr ht = record {
   others = λ k n low apart. ap (λ (f : QueuesByKey). queue_at n (f k).queues) hr;
   own_or_new = λ k n at. inl (ap (λ (f : PlainQueueSlots). f k) (sym ht) ∙ at);
   now = λ k n at. subst (λ (f : QueuesByKey). (n < (f k).next) × (is_open_by i n (f k).queues ≡ true)) (sym hr) (opens k n (ap (λ (f : PlainQueueSlots). f k) (sym ht) ∙ at));
+  counted = λ k.
+      let w = ap (λ (f : QueuesByKey). length (f k).queues) hr in
+      let z = ap (λ (f : PlainQueueSlots). count_in_slot (f k)) ht in
+      omega (arith, w, z);
 }
 
 -- an update at k with the old queues changes nothing
@@ -261,6 +281,53 @@ closed_next : (i : ℕ) (o : Option ℕ) (q : PlainQueues) → (close_in i o q).
 closed_next i None q = refl
 closed_next i (Some n) q = refl
 
+-- ---- the number of queues
+
+removed_if : (b : Bool) (n : ℕ) (q : ℕ × PlainQueue) (qs : List (ℕ × PlainQueue)) → nat_eq n q.0 ≡ b → is_some (queue_at n (q ∷ qs)) ≡ true
+    → (is_some (queue_at n qs) ≡ true → length (remove_queue n qs) + 1 ≡ length qs) → length (cond b qs (q ∷ remove_queue n qs)) + 1 ≡ length (q ∷ qs)
+removed_if true n q qs is h more = omega arith
+removed_if false n q qs is h more =
+    let below = more (sym (ap (λ b. is_some (cond b (Some q.1) (queue_at n qs))) is) ∙ h) in
+    omega (arith, below)
+
+-- an open queue that is removed is one less
+length_removed : (n : ℕ) (qs : List (ℕ × PlainQueue)) → is_some (queue_at n qs) ≡ true → length (remove_queue n qs) + 1 ≡ length qs
+length_removed n [] h = cc
+length_removed n (q ∷ qs) h = removed_if (nat_eq n q.0) n q qs refl h (length_removed n qs)
+
+replaced_if : (b : Bool) (w : PlainQueue) (q : ℕ × PlainQueue) (qs rest : List (ℕ × PlainQueue)) → length rest ≡ length qs → length (cond b ((q.0, w) ∷ qs) (q ∷ rest)) ≡ length (q ∷ qs)
+replaced_if true w q qs rest h = refl
+replaced_if false w q qs rest h = omega (arith, h)
+
+length_replaced : (n : ℕ) (w : PlainQueue) (qs : List (ℕ × PlainQueue)) → length (replace_queue n w qs) ≡ length qs
+length_replaced n w [] = refl
+length_replaced n w (q ∷ qs) = replaced_if (nat_eq n q.0) w q qs (replace_queue n w qs) (length_replaced n w qs)
+
+taken_found : (log : List PlainEntry) (n max : ℕ) (qs : List (ℕ × PlainQueue)) (o : Option PlainQueue) → length (option_map_or (λ w. replace_queue n (advance log max w) qs) o qs) ≡ length qs
+taken_found log n max qs None = refl
+taken_found log n max qs (Some w) = length_replaced n (advance log max w) qs
+
+-- a take opens and closes no queue
+length_taken : (b : Bool) (log : List PlainEntry) (n max : ℕ) (qs : List (ℕ × PlainQueue)) → length (cond b (queues_after_take log n max qs) qs) ≡ length qs
+length_taken true log n max qs = taken_found log n max qs (queue_at n qs)
+length_taken false log n max qs = refl
+
+is_open : (i : ℕ) (o : Option PlainQueue) → is_queue_of i o ≡ true → is_some o ≡ true
+is_open i None h = cc
+is_open i (Some w) h = refl
+
+shut_if : (b : Bool) (i n : ℕ) (qs : List (ℕ × PlainQueue)) → is_open_by i n qs ≡ b → is_open_by i n qs ≡ true → length (cond b (remove_queue n qs) qs) + 1 ≡ length qs
+shut_if true i n qs is h = length_removed n qs (is_open i (queue_at n qs) h)
+shut_if false i n qs is h = cc
+
+-- an own queue that is closed is one less
+length_shut : (i n : ℕ) (q : PlainQueues) → is_open_by i n q.queues ≡ true → length (close_queue i n q).queues + 1 ≡ length q.queues
+length_shut i n q h = shut_if (is_open_by i n q.queues) i n q.queues refl h
+
+length_closed : (i : ℕ) (o : Option ℕ) (q : PlainQueues) → ((n : ℕ) → o ≡ Some n → is_open_by i n q.queues ≡ true) → length (close_in i o q).queues + count_in_slot o ≡ length q.queues
+length_closed i None q h = omega arith
+length_closed i (Some n) q h = length_shut i n q (h n refl)
+
 -- a call for a number changes no other queue
 shut_other : (b : Bool) (k n : ℕ) (qs : List (ℕ × PlainQueue)) → (k ≡ n → ⊥) → queue_at k (cond b (remove_queue n qs) qs) ≡ queue_at k qs
 shut_other true k n qs h = queue_at_removed_other k n qs h
@@ -333,10 +400,23 @@ module _ (i : ℕ) (q0 q1 q2 : QueuesByKey) (l0 l2 : PlainKey → List PlainEntr
         let f = w_next in
         (omega (arith, e, f), ap (λ (j : ℕ). is_open_by i j queues_after.queues) (sym (some_is o.id n at)) ∙ ap (is_queue_of i) new_queue_stays ∙ eq-eqb i i refl)
 
+    -- the queue in the slot is still open when another one was opened
+    old_queue_is_open : (n : ℕ) → s0 k ≡ Some n → is_open_by i n (q1 k).queues ≡ true
+    old_queue_is_open n at =
+        let below = (h.given k n at).0 in
+        ap (is_queue_of i) (ap (queue_at n) start_is_free.queues ∙ queue_at_opened_other n (q0 k).next (record { start = o.start; taken = 0; by = i }) (q0 k).queues (λ e. omega (arith, below, e)))
+        ∙ (h.given k n at).1
+
+    count_at : length queues_after.queues + count_in_slot (s0 k) ≡ length (q0 k).queues + 1
+    count_at =
+        let closed = length_closed i (s0 k) (q1 k) old_queue_is_open in
+        let opened : length (q1 k).queues ≡ length (q0 k).queues + 1 = ap length start_is_free.queues ∙ length-append (q0 k).queues _ in
+        omega (arith, closed, opened)
+
     pub joined_leaves : OtherQueuesUnchanged i q0 s0 q2 s2
     joined_leaves =
         let f = w_next in
-        leaves_at i q0 q2 s0 s2 k queues_after (Some o.id) h.given queues_written h.slots (omega (arith, f)) other_queues_stay (λ n at. inr (let e = new_number n at in omega (arith, e))) now_at
+        leaves_at i q0 q2 s0 s2 k queues_after (Some o.id) h.given queues_written h.slots (omega (arith, f)) other_queues_stay (λ n at. inr (let e = new_number n at in omega (arith, e))) now_at count_at
 
     slots_assigned : (λ j. (q2 j).next) ≡ with_id_issued (λ j. (q0 j).next) k
     slots_assigned = λ d j. (ap (λ (f : QueuesByKey). (f j).next) queues_written ∙ assigned_if (keys_equal k j) queues_after (q0 j) ((q0 k).next + 1) (q0 j).next w_next refl) d
@@ -423,6 +503,9 @@ module _ (i : ℕ) (q0 q1 : QueuesByKey) (l0 l1 : PlainKey → List PlainEntry) 
           leaves_at i q0 q1 s0 s1 k (q1 k) (Some n) h.all h.others (slot_unchanged same) (omega (arith, f))
           (λ j below apart. ap (λ (z : PlainQueues). queue_at j z.queues) takes_is.1 ∙ taken_other (is_open_by i n (q0 k).queues) (l0 k) j n max (q0 k).queues (apart_of j apart)) (λ j e. inl (own_number j e))
           (λ j e. let low = (h.all k n h.at).0 in let is = some_is n j e in (omega (arith, low, f, is), ap (λ (d : ℕ). is_open_by i d (q1 k).queues) (sym is) ∙ ap (is_queue_of i) queue_is_advanced ∙ ap (is_queue_of i) (sym h.stands) ∙ queue_is_owned))
+          (let same_number : length (q1 k).queues ≡ length (q0 k).queues = ap (λ (z : PlainQueues). length z.queues) takes_is.1 ∙ length_taken (is_open_by i n (q0 k).queues) (l0 k) n max (q0 k).queues in
+          let filled = ap count_in_slot h.at in
+          omega (arith, same_number, filled))
 
     module _ (shut : q1 k ≡ close_queue i n (q0 k)) (empty : s1 ≡ with_value_at_key s0 k None) where
       pub closed_turn : DispatchesAct i (core_at l0 q0) (seen_by a q0 s0) (plain.unsubscribe k) (notice_answer plain.unsubscribed) (core_at l1 q1) (seen_by a q1 s1)
@@ -437,6 +520,9 @@ module _ (i : ℕ) (q0 q1 : QueuesByKey) (l0 l1 : PlainKey → List PlainEntry) 
           let f = h.next in
           leaves_at i q0 q1 s0 s1 k (q1 k) None h.all h.others empty (omega (arith, f))
           (λ j below apart. ap (λ (z : PlainQueues). queue_at j z.queues) shut ∙ shut_other (is_open_by i n (q0 k).queues) j n (q0 k).queues (apart_of j apart)) (λ j e. cc) (λ j e. cc)
+          (let one_less : length (q1 k).queues + 1 ≡ length (q0 k).queues = ap (λ (z : PlainQueues). length z.queues + 1) shut ∙ length_shut i n (q0 k) queue_is_owned in
+          let filled = ap count_in_slot h.at in
+          omega (arith, one_less, filled))
 
 -- ---- a commit
 

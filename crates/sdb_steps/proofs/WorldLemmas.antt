@@ -1,21 +1,21 @@
 -- One step of one session is one step of the world.
-use Rattle.std.proofs.Common.{◌≡◌, ℕ, zero, suc, ◌<◌, ◌≤◌, List, [], ◌∷◌, ◌++◌, length, get_or, Bool, true, false, cond, Option, Some, None, option_map, unwrap_or, nat_eq, ◌⊎◌, inl, inr, refl, sym, ap, ◌∙◌, subst, slice_get, arith}
+use Rattle.std.proofs.Common.{◌≡◌, ℕ, zero, suc, ◌+◌, ◌<◌, ◌≤◌, List, [], ◌∷◌, ◌++◌, length, get_or, Bool, true, false, cond, Option, Some, None, option_map, unwrap_or, nat_eq, ◌⊎◌, inl, inr, refl, sym, ap, ◌∙◌, subst, slice_get, arith}
 use Rattle.std.specs.List.{slice_set}
-use Rattle.std.specs.Option.{option_and_then}
+use Rattle.std.specs.Option.{is_some, option_and_then}
 use Rattle.std.proofs.lemmas.Option.{slice_get_read}
 use Rattle.std.proofs.lemmas.Bool.{eqb-true, eq-eqb}
 use Rattle.std.proofs.Math.Dec.{eqb-suc-zero, eqb-zero-suc, eqb-suc-suc}
 use Rattle.sdb_oplog.specs.Keys.{PlainKey}
-use Rattle.sdb_subscribe.specs.Queue.{PlainQueues, queue_at, is_queue_of, is_open_by}
+use Rattle.sdb_subscribe.specs.Queue.{PlainQueue, PlainQueues, queue_at, is_queue_of, is_open_by}
 use Rattle.sdb_desk.specs.Machine.{QueuesByKey}
 use Rattle.sdb_steps.specs.OneStep.{OneStep, Event, reply_to_event, replies_to_events, machine_after_events}
 use Rattle.sdb_steps.specs.Picks as plain
 use Rattle.sdb_steps.specs.Picks.{SessionStates, StepKind, PlainSessionStep, PlainStepAnswer, reply_answer, notice_answer, out_of_memory, Effect, event, notice, effect, reply_in, IsEffectOutcome, PicksOne, with_session, empty_session}
 use Rattle.sdb_steps.specs.Runs.{IsStep}
 use Rattle.sdb_steps.specs.Dispatch.{FollowsEffect, DispatchesAct}
-use Rattle.sdb_steps.specs.StateView.{position_in_queues, plain_open_attempt, session_state_of, session_states_of, queue_slots_of, queue_slots_at}
+use Rattle.sdb_steps.specs.StateView.{position_in_queues, plain_open_attempt, session_state_of, session_states_of, queue_slots_of, queue_slots_at, count_slots, count_queues}
 use Rattle.sdb_steps.specs.QueuePosition.{position_of_queue}
-use Rattle.sdb_steps.specs.Slots.{PlainQueueSlots, SlotsOpen, SlotsDisjoint, OtherQueuesUnchanged}
+use Rattle.sdb_steps.specs.Slots.{PlainQueueSlots, SlotsOpen, SlotsDisjoint, OtherQueuesUnchanged, count_in_slot}
 use Rattle.sdb_steps.specs.declared.session_data.Session.{Session}
 
 -- ---- a session's step and its world's
@@ -126,7 +126,52 @@ module _ (q r : QueuesByKey) (xs : List Session) (i : ℕ) (y : Session) (within
   pub apart_set : SlotsDisjoint (queue_slots_at (slice_set xs i y))
   apart_set j l k n f g = apart_if (nat_eq i j) (nat_eq i l) j l k n refl refl (sym (slots_set xs i j y k within) ∙ f) (sym (slots_set xs i l y k within) ∙ g)
 
+  count_set : (zs : List Session) (j : ℕ) (k : PlainKey) → j < length zs → count_slots (slice_set zs j y) k + count_in_slot (queue_slots_at zs j k) ≡ count_slots zs k + count_in_slot (queue_slots_of y k)
+  count_set [] j k h = absurd (omega arith)
+  count_set (z ∷ zs) zero k h = omega arith
+  count_set (z ∷ zs) (suc j) k h = let below = count_set zs j k (omega (arith, h)) in omega (arith, below)
+
+  pub counted_set : ((k : PlainKey) → length (q k).queues ≡ count_slots xs k) → (k : PlainKey) → length (r k).queues ≡ count_slots (slice_set xs i y) k
+  counted_set h k =
+      let before = h k in
+      let steps = leaves.counted k in
+      let sets = count_set xs i k within in
+      omega (arith, before, steps, sets)
+
+-- ---- the number of queues
+
+one_if : (i : ℕ) (o : Option PlainQueue) → is_queue_of i o ≡ true → ◌≡◌ {A = ℕ} 1 (cond (is_some (option_map position_of_queue o)) 1 0)
+one_if i None h = cc
+one_if i (Some w) h = refl
+
+one_in_slot : (i : ℕ) (q : PlainQueues) (o : Option ℕ) → ((n : ℕ) → o ≡ Some n → is_open_by i n q.queues ≡ true) → ◌≡◌ {A = ℕ} (count_in_slot o) (cond (is_some (position_in_queues q o)) 1 0)
+one_in_slot i q None h = refl
+one_in_slot i q (Some n) h = one_if i (queue_at n q.queues) (h n refl)
+
+count_from : (q : QueuesByKey) (xs : List Session) (i : ℕ) (w : SessionStates) → ((j m : ℕ) → m ≡ i + j → w m ≡ session_states_of q xs j)
+    → ((j m : ℕ) → m ≡ i + j → SlotsOpen m q (queue_slots_at xs j)) → (k : PlainKey) → count_queues w k i (length xs) ≡ count_slots xs k
+count_from q [] i w h opens k = refl
+count_from q (x ∷ xs) i w h opens k =
+    let first : (w i).queues k ≡ position_in_queues (q k) (queue_slots_of x k) = ap (λ (s : plain.SessionState). s.queues k) (h 0 i (omega arith)) in
+    let one = one_in_slot i (q k) (queue_slots_of x k) (λ n at. (opens 0 i (omega arith) k n at).1) in
+    let here : ◌≡◌ {A = ℕ} (cond (is_some ((w i).queues k)) 1 0) (count_in_slot (queue_slots_of x k)) = ap (λ o. cond (is_some o) 1 0) first ∙ sym one in
+    let rest = count_from q xs (i + 1) w (λ j m e. h (suc j) m (omega (arith, e))) (λ j m e. opens (suc j) m (omega (arith, e))) k in
+    omega (arith, here, rest)
+
+-- as many sessions have a queue of the key as slots are filled
+pub count_of_slots : (q : QueuesByKey) (xs : List Session) → ((j : ℕ) → SlotsOpen j q (queue_slots_at xs j)) → (n : ℕ) → length xs ≡ n → (k : PlainKey) → count_queues (session_states_of q xs) k 0 n ≡ count_slots xs k
+count_of_slots q xs opens n e k =
+    let w = session_states_of q xs in
+    ap (λ m. count_queues w k 0 m) (sym e)
+    ∙ count_from q xs 0 w (λ j m is. ap w (omega (arith, is))) (λ j m is. subst (λ l. SlotsOpen l q (queue_slots_at xs j)) (omega (arith, is)) (opens j)) k
+
 -- ---- fresh sessions
+
+pub count_more : (xs : List Session) (x : Session) (k : PlainKey) → queue_slots_of x ≡ (λ k. None) → count_slots xs k ≡ 0 → count_slots (xs ++ x ∷ []) k ≡ 0
+count_more [] x k h f = let empty = ap (λ (s : PlainQueueSlots). count_in_slot (s k)) h in omega (arith, empty)
+count_more (y ∷ xs) x k h f =
+    let below = count_more xs x k h (omega (arith, f)) in
+    omega (arith, f, below)
 
 pub none_more : (xs : List Session) (x : Session) → queue_slots_of x ≡ (λ k. None) → ((n : ℕ) (k : PlainKey) → queue_slots_at xs n k ≡ None) → (n : ℕ) (k : PlainKey) → queue_slots_at (xs ++ x ∷ []) n k ≡ None
 none_more [] x h f zero k = ap (λ (s : PlainQueueSlots). s k) h

@@ -1,6 +1,6 @@
 -- The views of attempts and sessions, given the queues of a shard.
-use Rattle.std.specs.Prelude.{ℕ, List, Option, None, option_map, unwrap_or, slice_get, Bool, true, false}
-use Rattle.std.specs.Option.{option_and_then}
+use Rattle.std.specs.Prelude.{ℕ, zero, suc, ◌+◌, List, [], ◌∷◌, if◌then◌else◌, Option, None, option_map, unwrap_or, slice_get, Bool, true, false}
+use Rattle.std.specs.Option.{is_some, option_and_then}
 use Rattle.sdb_oplog.specs.Plain.{PlainSubmission}
 use Rattle.sdb_oplog.specs.Keys.{PlainKey, plain_key}
 use Rattle.sdb_oplog.specs.declared.keys.Key.{Key}
@@ -12,7 +12,7 @@ use Rattle.sdb_desk.specs.declared.shard.Shard.{Shard}
 use Rattle.sdb_steps.specs.OneStep.{OneStep}
 use Rattle.sdb_steps.specs.Picks as plain
 use Rattle.sdb_steps.specs.QueuePosition.{QueuePosition, position_of_queue}
-use Rattle.sdb_steps.specs.Slots.{PlainQueueSlots}
+use Rattle.sdb_steps.specs.Slots.{PlainQueueSlots, count_in_slot}
 use Rattle.sdb_steps.specs.declared.session_data.Phase.{Phase}
 use Rattle.sdb_steps.specs.declared.session_data.Phase.TheVariants.{Looked, Moved, Worked}
 use Rattle.sdb_steps.specs.declared.session_data.OpenAttempt.{OpenAttempt}
@@ -60,6 +60,16 @@ session_state_of q x =
 
 abbrev pub session_states_of : QueuesByKey → List Session → plain.SessionStates
 session_states_of q xs n = unwrap_or (option_map (session_state_of q) (slice_get xs n)) plain.empty_session
+
+-- how many of n sessions, from session i on, have a queue of the key
+abbrev pub count_queues : plain.SessionStates → PlainKey → ℕ → ℕ → ℕ
+count_queues w k i zero = 0
+count_queues w k i (suc n) = (if is_some ((w i).queues k) then 1 else 0) + count_queues w k (i + 1) n
+
+-- how many slots of a key have a queue
+abbrev pub count_slots : List Session → PlainKey → ℕ
+count_slots [] k = 0
+count_slots (x ∷ xs) k = count_in_slot (queue_slots_of x k) + count_slots xs k
 
 -- the slots of session n
 abbrev pub queue_slots_at : List Session → ℕ → PlainQueueSlots

@@ -7,8 +7,8 @@ use Rattle.sdb_backend.specs.UnsavedEntries.{PlainEntryAt, plain_entry_at}
 use Rattle.sdb_backend.specs.declared.backend.Backend.{Backend}
 use Rattle.sdb_backend.specs.declared.unsaved.EntryAt.{EntryAt}
 use Rattle.sdb_dump.specs.ValueLimits.{IsSafeInteger}
-use Rattle.sdb_journal.specs.JournalText.{number_line}
-use Rattle.sdb_journal.specs.StoreMachine.{IsIn}
+use Rattle.sdb_dump.specs.JournalText.{number_line}
+use Rattle.sdb_dump.specs.StoreMachine.{IsIn}
 use Rattle.sdb_store.specs.SaverModel.{unwritten_lines, places_left, reserved_number, HasBlockLine, IsLineAt, IsJournalLine, is_block, is_entry, HasLineAt, TakesWithLines, AddsLines, CommitsRound}
 use Rattle.sdb_store.specs.declared.saver.Saver.{Saver}
 use Rattle.sdb_store.proofs.BetweenLemmas.{in_append, last_in, drop_at, drop_all}

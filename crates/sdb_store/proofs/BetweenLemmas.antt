@@ -2,7 +2,7 @@
 use Rattle.std.proofs.Common.{◌≡◌, ◌⊎◌, true, false, nat_eq, ℕ, zero, suc, ◌+◌, ◌<◌, ◌≤◌, List, [], ◌∷◌, ◌++◌, length, slice_get, slice_index_or, slice_set, Option, Some, Ok, Err, inl, inr, refl, sym, ap, ◌∙◌, arith}
 use Rattle.std.specs.Prelude.{take, drop, unwrap_or, Result, IfOk, OnOk, OnErr}
 use Rattle.std.proofs.lemmas.Bool.Decides.{eqb_tells}
-use Rattle.sdb_journal.specs.StoreMachine.{IsIn}
+use Rattle.sdb_dump.specs.StoreMachine.{IsIn}
 
 module _ {A : Type 0} (x : A) where
   pub in_take : (n : ℕ) (xs : List A) → IsIn x (take n xs) → IsIn x xs

@@ -1,6 +1,6 @@
 -- A submission that a restorer decides.
-use Rattle.std.proofs.Common.{◌≡◌, ◌≢◌, inl, inr, ℕ, ◌<◌, ◌≤◌, List, Bool, false, cond, length, Option, Some, None, Ok, Err, refl, sym, ap, subst, ◌∙◌, arith}
-use Rattle.std.specs.Prelude.{slice_get, option_and_then, Result, OnOk, IfOk, IfErr}
+use Rattle.std.proofs.Common.{◌≡◌, ◌≢◌, inl, inr, ℕ, ◌<◌, ◌≤◌, List, Bool, true, false, cond, length, Option, Some, None, Ok, Err, refl, sym, ap, subst, ◌∙◌, arith}
+use Rattle.std.specs.Prelude.{slice_get, if◌then◌else◌, option_and_then, Result, OnOk, IfOk, IfErr}
 use Rattle.std.specs.Result.{IsErrAnd}
 use Rattle.std.specs.Option.{option_map_or}
 use Rattle.std.proofs.lemmas.Option.{slice_get_past}
@@ -12,18 +12,15 @@ use Rattle.sdb_oplog.specs.declared.codes.Code.TheVariants.{E10}
 use Rattle.sdb_desk.specs.Machine.{DecidesOrOutOfMemory}
 use Rattle.sdb_desk.specs.laws.KeyLaws.{keys_equal_refl}
 use Rattle.sdb_dump.specs.DumpLine.{PlainLineContent}
-use Rattle.sdb_dump.specs.DumpText.{decided_entry, is_text_of_entry, line_of_entry_cond}
-use Rattle.sdb_dump.specs.declared.version.DumpVersion.TheVariants.{Two}
+use Rattle.sdb_dump.specs.DumpText.{decided_entry, is_text_of_entry, line_of_entry_cond, entry_of_read}
 use Rattle.sdb_dump.proofs.DecideLemmas.{stored_is}
 use Rattle.sdb_backend.specs.RestorationModel.{HasNoShare, HasSameShare}
 use Rattle.sdb_backend.specs.declared.restoration.Restoration.{Restoration}
-use Rattle.sdb_store.specs.RestorerModel.{IsRestorer, highest_number}
+use Rattle.sdb_store.specs.RestorerModel.{AppendsEntry, IsRestorer, highest_number}
 use Rattle.sdb_store.specs.declared.restorer.Restorer.{Restorer}
 use Rattle.sdb_backend.proofs.HistoryGrowth.{IsStoredReply, LogGainsEntry, decide_adds}
 use Rattle.sdb_store.specs.declared.restorer.RestoreFault.{RestoreFault}
 use Rattle.sdb_store.specs.declared.restorer.RestoreFault.TheVariants.{WrongLine, OutOfMemory}
-use Rattle.sdb_journal.specs.JournalModel.{AppendsEntry}
-use Rattle.sdb_journal.proofs.Decides.{decides, appends}
 
 -- ---- the shares of numbers
 
@@ -85,23 +82,27 @@ module _ (line : List ℕ) (r : PlainLineContent) (old new : Logs) where
   abbrev after : List PlainEntry
   after = (decide log r.submission r.moment).log
 
+  entry_if : (e : PlainEntry) → decided_entry log r.submission r.moment ≡ Some e → (b : Bool) → b ≡ is_text_of_entry line r.key r.moment e
+      → entry_of_read log line r ≡ (if b then Some (record { key = r.key; entry = e }) else None)
+  entry_if e by b is = ap (option_and_then (line_of_entry_cond line r)) by ∙ ap (λ t. if t then Some (record { key = r.key; entry = e }) else None) (sym is)
+
   module _ (wrote : new ≡ with_log old r.key after) where
     appends_or_none : (o : Option PlainEntry) (b : Bool) → decided_entry log r.submission r.moment ≡ o
-        → b ≡ option_map_or (is_text_of_entry Two line r.key r.moment) o false → AppendsEntry line r old new b
-    appends_or_none None b by is = subst (AppendsEntry line r old new) (sym is) (ap (option_and_then (line_of_entry_cond Two line r)) by)
-    appends_or_none (Some e) b by is =
-        appends line r old new log after b refl wrote (decides line r log after e by (stored_is log r.submission r.moment e by).grows {E = Unit {0}} (Ok b) is)
+        → b ≡ option_map_or (is_text_of_entry line r.key r.moment) o false → AppendsEntry line r old new b
+    appends_or_none None b by is = subst (AppendsEntry line r old new) (sym is) (ap (option_and_then (line_of_entry_cond line r)) by)
+    appends_or_none (Some e) true by is = (e, entry_if e by true is, wrote ∙ ap (with_log old r.key) (stored_is log r.submission r.moment e by).grows)
+    appends_or_none (Some e) false by is = entry_if e by false is
 
     -- whether the entry that was stored at the version has the line
-    pub entry_appended : (v : ℕ) (b : Bool) → v ≡ length log → b ≡ option_map_or (is_text_of_entry Two line r.key r.moment) (slice_get (new r.key) v) false → AppendsEntry line r old new b
+    pub entry_appended : (v : ℕ) (b : Bool) → v ≡ length log → b ≡ option_map_or (is_text_of_entry line r.key r.moment) (slice_get (new r.key) v) false → AppendsEntry line r old new b
     entry_appended v b at is =
         let here : new r.key ≡ after = ap (λ (f : Logs). f r.key) wrote ∙ ap (λ c. cond c after log) (keys_equal_refl r.key) in
         let found : slice_get (new r.key) v ≡ decided_entry log r.submission r.moment = ap (λ (l : List PlainEntry). slice_get l v) here ∙ ap (slice_get after) at in
-        appends_or_none (decided_entry log r.submission r.moment) b refl (is ∙ ap (λ o. option_map_or (is_text_of_entry Two line r.key r.moment) o false) found)
+        appends_or_none (decided_entry log r.submission r.moment) b refl (is ∙ ap (λ o. option_map_or (is_text_of_entry line r.key r.moment) o false) found)
 
   -- nothing is stored
   pub none_appended : decided_entry log r.submission r.moment ≡ None → AppendsEntry line r old new false
-  none_appended by = ap (option_and_then (line_of_entry_cond Two line r)) by
+  none_appended by = ap (option_and_then (line_of_entry_cond line r)) by
 
 -- ---- results
 

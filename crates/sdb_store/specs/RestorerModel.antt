@@ -1,20 +1,19 @@
 -- The documents and the highest number that a restorer has restored.
-use Rattle.std.specs.Prelude.{◌≡◌, ◌⊎◌, ℕ, ◌+◌, ◌<◌, ◌≤◌, List, [], ◌∷◌, ◌++◌, Option, Some, None, IfSome, option_map}
+use Rattle.std.specs.Prelude.{◌≡◌, ◌⊎◌, ℕ, ◌+◌, ◌<◌, ◌≤◌, List, [], ◌∷◌, ◌++◌, max, Bool, true, false, Option, Some, None, IfSome, option_map}
 use Rattle.std.specs.Option.{option_map_or}
 use Rattle.sdb_oplog.specs.Plain.{PlainEntry}
-use Rattle.sdb_oplog.specs.Keys.{PlainKey, Logs}
+use Rattle.sdb_oplog.specs.Keys.{PlainKey, Logs, with_log}
 use Rattle.sdb_desk.specs.ShardView.{logs_of}
-use Rattle.sdb_dump.specs.DumpLine.{read_line}
-use Rattle.sdb_dump.specs.DumpText.{entry_line}
-use Rattle.sdb_dump.specs.declared.version.DumpVersion.TheVariants.{Two}
+use Rattle.sdb_dump.specs.DumpLine.{PlainLineContent, read_line}
+use Rattle.sdb_dump.specs.DumpText.{entry_line, entry_of_read}
 use Rattle.sdb_backend.specs.HistoryOrder.{IsExtension}
 use Rattle.sdb_backend.specs.PassModel.{next_pass_number, IsHostOfBackend, PassHasSeen, HostHasSeenLogs, HasSeenHostHistories}
 use Rattle.sdb_backend.specs.RestorationModel.{restored_logs, HasNoShare}
 use Rattle.sdb_backend.specs.declared.pass.Host.{Host}
 use Rattle.sdb_backend.specs.declared.pass.Pass.{Pass}
 use Rattle.sdb_backend.specs.declared.shard_value.Held.{Held}
-use Rattle.sdb_journal.specs.JournalText.{JournalItem, logs_of_items, highest_number as highest_item_number, accepted_item, read_number}
-use Rattle.sdb_journal.specs.StoreMachine.{IsIn}
+use Rattle.sdb_dump.specs.JournalText.{JournalItem, logs_of_items, highest_number as highest_item_number, accepted_item, read_number}
+use Rattle.sdb_dump.specs.StoreMachine.{IsIn}
 use Rattle.sdb_store.specs.declared.restorer.Restorer.{Restorer}
 use Rattle.sdb_store.specs.declared.restorer.RestoredBackend.{RestoredBackend}
 
@@ -36,6 +35,19 @@ pub record RestorerGrows (old new : Restorer) : Type 0 where
   pub highest : highest_number old ≤ highest_number new
   pub logs : (k : PlainKey) → IsExtension (restorer_logs new k) (restorer_logs old k)
 
+-- ---- one more line
+
+-- the entry of the line is the last one of its key's log, and other logs are unchanged; or there is no such entry
+abbrev pub AppendsEntry : List ℕ → PlainLineContent → Logs → Logs → Bool → Type 0
+AppendsEntry line r old new true =
+    (e : PlainEntry) × (entry_of_read (old r.key) line r ≡ Some (record { key = r.key; entry = e }))
+    × (new ≡ with_log old r.key (old r.key ++ e ∷ []))
+AppendsEntry line r old new false = entry_of_read (old r.key) line r ≡ None
+
+-- the line is one of a block, and the highest number is at least its number
+abbrev pub IsNumberRestored : Option ℕ → ℕ → ℕ → Type 0
+IsNumberRestored number old new = (n : ℕ) × (number ≡ Some n) × (new ≡ max old n)
+
 -- ---- the items of a journal
 
 -- the restorer has restored these items of a journal
@@ -51,7 +63,7 @@ pub record HasRestoredLine (r : Restorer) (xs : List JournalItem) (line : List �
 
 -- no item after these has this line, or the line is that of an entry with number 0
 abbrev pub IsWrongLine : List JournalItem → List ℕ → Type 0
-IsWrongLine xs line = (accepted_item xs line ≡ None) ⊎ (option_map (λ r. r.submission.by) (read_line Two line) ≡ Some 0)
+IsWrongLine xs line = (accepted_item xs line ≡ None) ⊎ (option_map (λ r. r.submission.by) (read_line line) ≡ Some 0)
 
 -- ---- lines
 
@@ -59,7 +71,7 @@ IsWrongLine xs line = (accepted_item xs line ≡ None) ⊎ (option_map (λ r. r.
 pub record HasLineIn (log : List PlainEntry) (k : PlainKey) (line : List ℕ) : Type 0 where
   pub entry : PlainEntry
   pub stored : IsIn entry log
-  pub line_is : line ≡ entry_line Two (record { key = k; entry = entry })
+  pub line_is : line ≡ entry_line (record { key = k; entry = entry })
 
 -- the log of the key has the entry of this line
 abbrev pub HasStoredLine : Restorer → PlainKey → List ℕ → Type 0
@@ -67,12 +79,12 @@ HasStoredLine r k line = HasLineIn (restorer_logs r k) k line
 
 -- the number that a line names: that of the pass which submitted an entry, or the last one of a block
 abbrev pub number_of_line : List ℕ → Option ℕ
-number_of_line line = option_map_or (λ r. Some r.submission.by) (read_line Two line) (read_number line)
+number_of_line line = option_map_or (λ r. Some r.submission.by) (read_line line) (read_number line)
 
 -- the highest number is at least the line's, and the entry of the line is stored
 pub record HasContentOfLine (r : Restorer) (line : List ℕ) : Type 0 where
   pub number : IfSome (number_of_line line) (λ n. n ≤ highest_number r)
-  pub stored : IfSome (read_line Two line) (λ content. HasStoredLine r content.key line)
+  pub stored : IfSome (read_line line) (λ content. HasStoredLine r content.key line)
 
 -- the entry of a restored line is stored, and the item of the line is the next one of the journal
 pub record RestorerAfterLine (old new : Restorer) (line : List ℕ) : Type 0 where
@@ -85,7 +97,7 @@ pub record HasSeenLine (p : Pass) (k : PlainKey) (line : List ℕ) : Type 0 wher
   pub entry : PlainEntry
   pub seen : PassHasSeen p k history
   pub stored : IsIn entry (logs_of history.shard k)
-  pub line_is : line ≡ entry_line Two (record { key = k; entry = entry })
+  pub line_is : line ≡ entry_line (record { key = k; entry = entry })
 
 -- each pass that has observed the host's histories has observed the entry of each stored line
 abbrev pub PassesHaveSeenLines : Restorer → Host → Type 0

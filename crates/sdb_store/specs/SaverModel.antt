@@ -6,14 +6,13 @@ use Rattle.sdb_oplog.specs.Plain.{PlainEntry}
 use Rattle.sdb_desk.specs.ShardView.{logs_of}
 use Rattle.sdb_dump.specs.DumpText.{entry_line}
 use Rattle.sdb_dump.specs.ValueLimits.{IsSafeInteger}
-use Rattle.sdb_dump.specs.declared.version.DumpVersion.TheVariants.{Two}
 use Rattle.sdb_backend.specs.PassModel.{IsPassOfBackend, PassHasSeen}
 use Rattle.sdb_backend.specs.UnsavedEntries.{PlainEntryAt, plain_entry_at, TakesUnsaved}
 use Rattle.sdb_backend.specs.declared.backend.Backend.{Backend}
 use Rattle.sdb_backend.specs.declared.pass.Pass.{Pass}
 use Rattle.sdb_backend.specs.declared.shard_value.Held.{Held}
-use Rattle.sdb_journal.specs.JournalText.{number_line}
-use Rattle.sdb_journal.specs.StoreMachine.{IsIn}
+use Rattle.sdb_dump.specs.JournalText.{number_line}
+use Rattle.sdb_dump.specs.StoreMachine.{IsIn}
 use Rattle.sdb_store.specs.declared.saver.Saver.{Saver}
 
 -- the lines of a group
@@ -49,7 +48,7 @@ module _ {R : Type 0} (b : Backend R) where
     pub seen : PassHasSeen pass e.key history
     pub entry : PlainEntry
     pub stored : slice_get (logs_of history.shard e.key) e.version ≡ Some entry
-    pub line_is : line ≡ entry_line Two (record { key = e.key; entry = entry })
+    pub line_is : line ≡ entry_line (record { key = e.key; entry = entry })
 
   -- the line of a block of numbers of 53 bits, or of an entry
   pub data IsJournalLine (line : List ℕ) : Type 0 where

@@ -6,18 +6,15 @@ ghost use Rattle.sdb_oplog.specs.Keys.{PlainKey, plain_key, with_log};
 ghost use Rattle.sdb_oplog.specs.declared.codes.Code.TheVariants.{E10};
 ghost use Rattle.sdb_dump.specs.DumpText.{decided_entry, is_text_of_entry};
 ghost use Rattle.sdb_dump.specs.View.{plain_line_content};
-ghost use Rattle.sdb_dump.specs.declared.version.DumpVersion.TheVariants.{Two};
 ghost use Rattle.sdb_backend.specs.AuditModel.{audit_logs};
 ghost use Rattle.sdb_backend.specs.HistoryOrder.{IsExtension};
-ghost use Rattle.sdb_journal.specs.JournalModel.{AppendsEntry, IsNumberRestored};
-ghost use Rattle.sdb_journal.specs.JournalText.{JournalItem, read_number};
-ghost use Rattle.sdb_store.specs.RestorerModel.{IsRestorer, RestorerGrows, HasRestored, IsWrongLine, RestorerAfterLine, IsBackendOfRestorer, restorer_logs, highest_number};
+ghost use Rattle.sdb_dump.specs.JournalText.{JournalItem, read_number};
+ghost use Rattle.sdb_store.specs.RestorerModel.{AppendsEntry, IsNumberRestored, IsRestorer, RestorerGrows, HasRestored, IsWrongLine, RestorerAfterLine, IsBackendOfRestorer, restorer_logs, highest_number};
 ghost use Rattle.sdb_store.specs.declared.restorer.RestoreFault.TheVariants.{WrongLine};
 
 use sdb_backend::{Audit, Backend, Host, Restoration};
 use sdb_desk::Reply;
-use sdb_dump::{DumpVersion, LineContent, is_line_of, read_line};
-use sdb_journal::read_number;
+use sdb_dump::{LineContent, is_line_of, read_line, read_number};
 use sdb_oplog::{Code, Key, Moment, Submission};
 use std::alloc::{AllocError, Global};
 use thiserror::Error;
@@ -101,7 +98,7 @@ impl Restorer {
         ensures err { IfErr result (λ fault. fault ≡ WrongLine → (xs : List JournalItem)
             → HasRestored self.old xs → IsWrongLine xs line.now) }
     {
-        match read_line(self.alloc, DumpVersion::Two, line)? {
+        match read_line(self.alloc, line)? {
             Some(content) => self.restore_entry(line, content),
             None => self.restore_number(line),
         }
@@ -146,7 +143,7 @@ impl Restorer {
     fn restore_number(&mut self, line: &[u8]) -> Result<(), RestoreFault>
         ensures documents { self.new.restoration ≡ self.old.restoration }
         ensures not_lower { highest_number self.old ≤ highest_number self.new }
-        ensures ok { OnOk result (IsNumberRestored true (read_number line.now) (highest_number self.old)
+        ensures ok { OnOk result (IsNumberRestored (read_number line.now) (highest_number self.old)
             (highest_number self.new)) }
         ensures err { IfErr result (λ fault. fault ≡ WrongLine → read_number line.now ≡ None) }
     {
@@ -222,14 +219,15 @@ impl Restorer {
         version: u64,
         moment: Moment,
     ) -> Result<bool, AllocError>
-        ensures { IfOk result (λ b. b ≡ option_map_or (is_text_of_entry Two line.now (plain_key key.now) moment)
+        ensures { IfOk result (λ b. b
+            ≡ option_map_or (is_text_of_entry line.now (plain_key key.now) moment)
             (slice_get (restorer_logs self.now (plain_key key.now)) version) false) }
     {
         let Some(log) = self.restoration.log(key) else {
             return Ok(false);
         };
         match log.get(version) {
-            Some(entry) => is_line_of(self.alloc, DumpVersion::Two, line, key, entry, moment),
+            Some(entry) => is_line_of(self.alloc, line, key, entry, moment),
             None => Ok(false),
         }
     }

@@ -1,14 +1,14 @@
 //! Taking stored entries from a backend, and writing their lines.
 ghost use Rattle.std.specs.Prelude.{◌≡◌, ◌⊎◌, ◌+◌, ◌<◌, ◌++◌, ◌∷◌, [], List, ℕ, IfOk, OnOk, OnErr, length, slice_get, Some};
-ghost use Rattle.sdb_journal.specs.JournalText.{number_line};
-ghost use Rattle.sdb_journal.specs.StoreMachine.{IsIn};
+ghost use Rattle.sdb_dump.specs.JournalText.{number_line};
+ghost use Rattle.sdb_dump.specs.StoreMachine.{IsIn};
 ghost use Rattle.sdb_backend.specs.PassModel.{IsPassOfBackend};
 ghost use Rattle.sdb_backend.specs.UnsavedEntries.{plain_entry_at};
 ghost use Rattle.sdb_store.specs.SaverModel.{lines_of, saver_pass, unwritten_lines, places_left, reserved_number, HasBlockLine, IsLineAt, AddsLines, TakesWithLines, CommitsRound};
 
 use crate::line_writer::{LineWriter, WriteFault};
 use sdb_backend::{Backend, EntryAt, Pass, SHARD_COUNT};
-use sdb_journal::{entry_line, number_line};
+use sdb_dump::{entry_line, number_line};
 use sdb_progress::RoundFailure;
 use sdb_submit::Desk;
 use sdb_value::MAX;

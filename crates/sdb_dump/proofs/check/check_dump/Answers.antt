@@ -8,7 +8,8 @@ use Rattle.sdb_dump.specs.DumpText.{PlainLine}
 use Rattle.sdb_dump.specs.CheckStages.{PlainStage, stage_result}
 use Rattle.sdb_dump.specs.Faults.{IsDumpFault}
 use Rattle.sdb_dump.specs.declared.checker.DumpFault.TheVariants.{ReadFailed}
-use Rattle.sdb_dump.proofs.CheckProgress.{check_run_start, check_run_step, check_run_wrong, check_run_accepted, check_run_refused, if_ok_then, if_err_then}
+use Rattle.sdb_dump.proofs.CheckProgress.{check_run_start, check_run_step, check_run_wrong, check_run_accepted, check_run_refused}
+use Rattle.sdb_dump.proofs.HoldsLemmas.{if_ok_then, if_err_then}
 use Rattle.sdb_dump.proofs.check.check_dump.Goals as goal
 
 pub loop-turn-init : goal.loop-turn-init

@@ -1,7 +1,6 @@
 use Rattle.std.proofs.Common.{◌≡◌, ◌++◌, ◌∷◌, [], List, codes, length, map, ap, ◌∙◌, subst}
 use Rattle.sdb_lines.specs.Prefixes.{AppendsPrefix}
 use Rattle.sdb_oplog.specs.Keys.{PlainKey, plain_key}
-use Rattle.sdb_dump.specs.declared.version.DumpVersion.TheVariants.{Two}
 use Rattle.sdb_dump.specs.DumpText.{header_line}
 use Rattle.sdb_dump.specs.LogListing.{lines_of_logs}
 use Rattle.sdb_dump.specs.WriteModel.{WroteUpTo, logs_text}
@@ -13,7 +12,7 @@ returns-in_err-entries-clause-prefix_on_err g c =
     let f = g.D.DumpSource.logs c.args.documents.now in
     let ks = map plain_key c.in_ok-keys.keys.items in
     let head = c.extend_from_slice.new.self.items in
-    let first : head ≡ header_line Two ++ 10 ∷ [] = c.in_ok-extend_from_slice.ensures.items ∙ ap (λ l. l ++ codes "{\"dump\":2}\n") c.in_ok-out.ensures.items ∙ head_is in
+    let first : head ≡ header_line ++ 10 ∷ [] = c.in_ok-extend_from_slice.ensures.items ∙ ap (λ l. l ++ codes "{\"dump\":2}\n") c.in_ok-out.ensures.items ∙ head_is in
     let old = g.W.Sink.bytes_written c.args.writer.now in
     let mid = g.W.Sink.bytes_written c.write_logs.new.writer in
     let same : map plain_key c.as_slice.result.now ≡ ks = ap (map plain_key) c.as_slice.ensures.value in
@@ -24,7 +23,7 @@ returns-in_err-push_count-clause-prefix_on_err g c =
     let f = g.D.DumpSource.logs c.args.documents.now in
     let ks = map plain_key c.in_ok-keys.keys.items in
     let head = c.extend_from_slice.new.self.items in
-    let first : head ≡ header_line Two ++ 10 ∷ [] = c.in_ok-extend_from_slice.ensures.items ∙ ap (λ l. l ++ codes "{\"dump\":2}\n") c.in_ok-out.ensures.items ∙ head_is in
+    let first : head ≡ header_line ++ 10 ∷ [] = c.in_ok-extend_from_slice.ensures.items ∙ ap (λ l. l ++ codes "{\"dump\":2}\n") c.in_ok-out.ensures.items ∙ head_is in
     let old = g.W.Sink.bytes_written c.args.writer.now in
     let mid = g.W.Sink.bytes_written c.write_logs.new.writer in
     let out = c.write_logs.new.out.items in
@@ -36,7 +35,7 @@ returns-in_err-write_and_flush-clause-prefix_on_err g c =
     let f = g.D.DumpSource.logs c.args.documents.now in
     let ks = map plain_key c.in_ok-keys.keys.items in
     let head = c.extend_from_slice.new.self.items in
-    let first : head ≡ header_line Two ++ 10 ∷ [] = c.in_ok-extend_from_slice.ensures.items ∙ ap (λ l. l ++ codes "{\"dump\":2}\n") c.in_ok-out.ensures.items ∙ head_is in
+    let first : head ≡ header_line ++ 10 ∷ [] = c.in_ok-extend_from_slice.ensures.items ∙ ap (λ l. l ++ codes "{\"dump\":2}\n") c.in_ok-out.ensures.items ∙ head_is in
     let old = g.W.Sink.bytes_written c.args.writer.now in
     let mid = g.W.Sink.bytes_written c.write_logs.new.writer in
     let new = g.W.Sink.bytes_written c.write_and_flush.new.writer in
@@ -51,7 +50,7 @@ returns-clause-wrote_all g c =
     let f = g.D.DumpSource.logs c.args.documents.now in
     let ks = map plain_key c.in_ok-keys.keys.items in
     let head = c.extend_from_slice.new.self.items in
-    let first : head ≡ header_line Two ++ 10 ∷ [] = c.in_ok-extend_from_slice.ensures.items ∙ ap (λ l. l ++ codes "{\"dump\":2}\n") c.in_ok-out.ensures.items ∙ head_is in
+    let first : head ≡ header_line ++ 10 ∷ [] = c.in_ok-extend_from_slice.ensures.items ∙ ap (λ l. l ++ codes "{\"dump\":2}\n") c.in_ok-out.ensures.items ∙ head_is in
     let old = g.W.Sink.bytes_written c.args.writer.now in
     let mid = g.W.Sink.bytes_written c.write_logs.new.writer in
     let new = g.W.Sink.bytes_written c.write_and_flush.new.writer in

@@ -17,7 +17,7 @@ returns-in_default-get-clause-accepted c = λ xs h.
     let w : CheckerContinues xs r.key log mid = subst (TakesDocument xs r.key mid) c.in-Some.is (c.in_ok-document.ensures.taken xs h) in
     let by : decided_entry log r.submission r.moment ≡ None =
     ap₂ slice_get (sym (c.log-2.ensures.log ∙ c.in_ok-append_decided.ensures)) (sym (c.len-at.ensures.len ∙ ap length c.log.ensures.log)) ∙ sym c.in_default-get.ensures in
-    not_entered c.args.version xs c.args.line.now r log mid w by
+    not_entered xs c.args.line.now r log mid w by
 
 pub returns-clause-accepted : goal.returns-clause-accepted
 returns-clause-accepted c = λ xs h.
@@ -31,6 +31,6 @@ returns-clause-accepted c = λ xs h.
     let w : CheckerContinues xs r.key log mid = subst (TakesDocument xs r.key mid) c.in-Some.is (c.in_ok-document.ensures.taken xs h) in
     let by : decided_entry log r.submission r.moment ≡ Some e =
     ap₂ slice_get (sym (c.log-2.ensures.log ∙ c.in_ok-append_decided.ensures)) (sym (c.len-at.ensures.len ∙ ap length c.log.ensures.log)) ∙ sym c.in-Some-get.ensures in
-    enter_holds c.args.version xs c.args.line.now r log mid w old new e last c.in_ok-is_right.is_right h c.requires.in_limits.0 c.requires.in_limits.1 by refl refl refl
+    enter_holds xs c.args.line.now r log mid w old new e last c.in_ok-is_right.is_right h c.requires.in_limits.0 c.requires.in_limits.1 by refl refl refl
     (c.in_ok-append_decided.ensures ∙ (stored_is log r.submission r.moment e by).grows)
     (ap (λ n. n + 1) c.take_document.ensures.entries) c.in_ok-is_right.ensures

@@ -1,11 +1,12 @@
 use Rattle.std.proofs.Common.{◌≡◌, ◌+◌, ◌∷◌, [], ◌++◌, List, length, length-append, arith, ap, sym, subst, ◌∙◌}
 use Rattle.sdb_desk.specs.ShardState.{plain_queues}
+use Rattle.sdb_desk.specs.Machine.{QueuesByKey}
 use Rattle.sdb_desk.specs.ShardView.{logs_of}
 use Rattle.sdb_steps.specs.LookInvariant.{AllHaveLookAt}
-use Rattle.sdb_steps.specs.StateView.{session_states_of, queue_slots_at}
+use Rattle.sdb_steps.specs.StateView.{session_states_of, queue_slots_at, count_slots}
 use Rattle.sdb_steps.specs.declared.session_data.Session.{Session}
 use Rattle.sdb_steps.proofs.LookLemmas.{looked_more, looked_none}
-use Rattle.sdb_steps.proofs.WorldLemmas.{none_more, fresh_more, fresh_session}
+use Rattle.sdb_steps.proofs.WorldLemmas.{none_more, fresh_more, fresh_session, count_more}
 use Rattle.sdb_steps.proofs.world_state.WorldState.new.Goals as goal
 
 pub invariant_of-result : goal.invariant_of-result
@@ -13,6 +14,7 @@ invariant_of-result c = record {
   all = omega (arith, c.loop.invariant.count, c.loop-test.false, c.loop.auto.counter-end);
   slots_open = λ i k n at. let e = c.loop.invariant.empty i k in cc;
   apart = λ i j k n at by. let e = c.loop.invariant.empty i k in cc;
+  counted = λ k. ap length (ap (λ (f : QueuesByKey). (f k).queues) (ap plain_queues c.new-2.ensures)) ∙ sym (c.loop.invariant.none_open k);
   looked = c.loop.invariant.looked (logs_of c.new-2.result);
 }
 
@@ -26,6 +28,7 @@ loop-preserved c =
       count = ap length pushed ∙ more ∙ ap (λ n. n + 1) c.loop.invariant.count;
       unused = λ q n. ap (λ (ys : List Session). session_states_of q ys n) pushed ∙ fresh_more q xs x (fresh_session q x c.new.ensures.attempt c.new.ensures.slots) (c.loop.invariant.unused q) n;
       looked = λ logs. subst (λ (ys : List Session). AllHaveLookAt logs ys) (sym pushed) (looked_more logs xs x (looked_none logs x.attempt c.new.ensures.attempt) (c.loop.invariant.looked logs));
+      none_open = λ k. ap (λ (ys : List Session). count_slots ys k) pushed ∙ count_more xs x k c.new.ensures.slots (c.loop.invariant.none_open k);
       empty = λ n k. ap (λ (ys : List Session). queue_slots_at ys n k) pushed ∙ none_more xs x c.new.ensures.slots c.loop.invariant.empty n k;
     }
 

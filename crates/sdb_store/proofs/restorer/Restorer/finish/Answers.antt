@@ -1,5 +1,5 @@
 use Rattle.std.proofs.Common.{rules, sym, subst, arith}
-use Rattle.sdb_journal.specs.StoreMachine.{IsIn}
+use Rattle.sdb_dump.specs.StoreMachine.{IsIn}
 use Rattle.sdb_backend.specs.laws.RestorationLaws.{pass_sees_logs}
 use Rattle.sdb_store.specs.RestorerModel.{restorer_logs}
 use Rattle.sdb_store.proofs.restorer.Restorer.finish.Goals as goal

@@ -2,7 +2,6 @@ use Rattle.std.proofs.Common.{◌≡◌, Some, None, sym, ap, ◌∙◌}
 use Rattle.std.specs.Prelude.{option_map}
 use Rattle.sdb_dump.specs.DumpLine.{read_line}
 use Rattle.sdb_dump.specs.View.{plain_line_content}
-use Rattle.sdb_dump.specs.declared.version.DumpVersion.TheVariants.{Two}
 use Rattle.sdb_backend.specs.RestorationModel.{restored_logs}
 use Rattle.sdb_store.proofs.RestoreLemmas.{on_ok_map, if_err_map, restorer_kept}
 use Rattle.sdb_store.proofs.RestoredItems.{entry_restored, wrong_entry, number_restored, content_of_entry, content_of_number}
@@ -14,7 +13,7 @@ returns-in-Some-clause-ok c =
     let old = c.args.self.now in
     let new = c.restore_entry.new.self in
     let line = c.args.line.now in
-    let read : read_line Two line ≡ Some r = sym c.in_ok-content.ensures.read ∙ ap (option_map plain_line_content) c.in-Some.is in
+    let read : read_line line ≡ Some r = sym c.in_ok-content.ensures.read ∙ ap (option_map plain_line_content) c.in-Some.is in
     on_ok_map c.restore_entry.result
     (λ h.
     record {
@@ -27,7 +26,7 @@ pub returns-in-Some-clause-err : goal.returns-in-Some-clause-err
 returns-in-Some-clause-err c =
     let r = plain_line_content c.in-Some.content in
     let line = c.args.line.now in
-    let read : read_line Two line ≡ Some r = sym c.in_ok-content.ensures.read ∙ ap (option_map plain_line_content) c.in-Some.is in
+    let read : read_line line ≡ Some r = sym c.in_ok-content.ensures.read ∙ ap (option_map plain_line_content) c.in-Some.is in
     if_err_map c.restore_entry.result (λ fault h wrong xs has. wrong_entry c.args.self.now c.restore_entry.new.self xs line has r read (h wrong)) c.restore_entry.ensures.err
 
 pub returns-in-None-clause-restorer : goal.returns-in-None-clause-restorer
@@ -38,7 +37,7 @@ returns-in-None-clause-ok c =
     let old = c.args.self.now in
     let new = c.restore_number.new.self in
     let line = c.args.line.now in
-    let read : read_line Two line ≡ None = sym c.in_ok-content.ensures.read ∙ ap (option_map plain_line_content) c.in-None.is in
+    let read : read_line line ≡ None = sym c.in_ok-content.ensures.read ∙ ap (option_map plain_line_content) c.in-None.is in
     on_ok_map c.restore_number.result
     (λ h.
     record {

@@ -1,5 +1,0 @@
-pub mod Decides
-pub mod Exact
-pub mod Items
-pub mod Restores
-mod StoreRuns

@@ -1,6 +1,0 @@
-use Rattle.json.specs.Print.{escape_byte}
-use Rattle.sdb_journal.proofs.lines.number_text.Goals as goal
-
-pub returns : goal.returns
-unfolding escape_byte
-returns c = c.format.ensures.ok
