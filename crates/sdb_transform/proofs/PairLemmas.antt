@@ -1,5 +1,5 @@
 -- Operations of one component each.
-use Rattle.std.proofs.Common.{◌≡◌, List, [], ◌∷◌, Option, Some, None, inl, inr, ap, ◌∙◌}
+use Rattle.std.proofs.Common.{◌≡◌, List, [], ◌∷◌, Option, Some, None, ap, ◌∙◌}
 use Rattle.std.proofs.lemmas.List.{append-nil}
 use Rattle.sdb_component.specs.Plain.{PlainComponent}
 use Rattle.sdb_transform.specs.ActModel.{IsTransformFault, IsPairFault}
@@ -7,7 +7,6 @@ use Rattle.sdb_transform.specs.declared.side.Fault.{Fault}
 use Rattle.sdb_transform.specs.declared.side.Fault.TheVariants.{OutOfMemory, NotTransformed}
 use Rattle.sdb_transform.specs.declared.side.Side.TheVariants.{Left, Right}
 use Rattle.sdb_transform.specs.Cross.{CrossResult, and_then, cross_ops, join_crossings}
-use Rattle.sdb_transform.specs.CrossStack.{IsCrossFault}
 use Rattle.sdb_transform.specs.Transform.{transform}
 use Rattle.sdb_transform.proofs.CrossLemmas.{cross_left_empty, cross_right_empty, cross_pair, and_then_none}
 use Rattle.sdb_transform.proofs.WeightLemmas.{transform_is_weighted}
@@ -47,12 +46,3 @@ module _ (l r : PlainComponent) where
   pub right_fault : (f : Fault) → IsTransformFault f (transform Right r l) → IsTransformFault f (cross_ops (l ∷ []) (r ∷ []))
   right_fault NotTransformed h = right_refused h
   right_fault OutOfMemory h = tt
-
-  -- a fault of one transform refuses both
-  pub refused_left : (f : Fault) → IsTransformFault f (transform Left l r) → IsCrossFault l r f
-  refused_left NotTransformed h = inl h
-  refused_left OutOfMemory h = tt
-
-  pub refused_right : (f : Fault) → IsTransformFault f (transform Right r l) → IsCrossFault l r f
-  refused_right NotTransformed h = inr h
-  refused_right OutOfMemory h = tt

@@ -1,6 +1,7 @@
 -- Vectors as stacks, from the top, and the view of a crossing.
 use Rattle.std.specs.Arc.{arc_value}
-use Rattle.std.specs.Prelude.{◌⊎◌, ◌≡◌, ℕ, ◌-◌, ◌^◌, min, List, ◌++◌, map, reverse, Option, Some, None, ⊤}
+use Rattle.std.specs.Prelude.{◌⊎◌, ◌≡◌, ℕ, ◌-◌, ◌^◌, min, List, ◌++◌, map, reverse, true, Option, Some, None}
+use Rattle.std.specs.Option.{is_some}
 use Rattle.sdb_component.specs.Plain.{PlainComponent}
 use Rattle.sdb_component.specs.Weight.{component_weight}
 use Rattle.sdb_transform.specs.declared.cross_stack.Frame.{Frame}
@@ -47,7 +48,7 @@ abbrev pub IsOpTransform : List PlainComponent → TransformedOp → Option (Lis
 IsOpTransform op (Unchanged same) o = (arc_value same ≡ op) × (o ≡ Some op)
 IsOpTransform op (New made) o = o ≡ Some made
 
--- one of both transforms is refused, or an allocation failed
+-- one of both transforms is refused; or both exist, and an allocation failed
 abbrev pub IsCrossFault : PlainComponent → PlainComponent → Fault → Type 0
-IsCrossFault l r OutOfMemory = ⊤
+IsCrossFault l r OutOfMemory = (is_some (transform Left l r) ≡ true) × (is_some (transform Right r l) ≡ true)
 IsCrossFault l r NotTransformed = (transform Left l r ≡ None) ⊎ (transform Right r l ≡ None)

@@ -1,9 +1,10 @@
 //! Transforms of operations.
 ghost use Rattle.std.specs.Arc.{arc_value};
-ghost use Rattle.std.specs.Prelude.{◌≡◌, ◌≤◌, ◌*◌, List, ◌∷◌, [], IfOk, IfErr, Some};
+ghost use Rattle.std.specs.Option.{is_some};
+ghost use Rattle.std.specs.Prelude.{◌≡◌, ◌≤◌, ◌*◌, List, ◌∷◌, [], true, IfOk, IfErr, IsErrOf, Some};
 ghost use Rattle.sdb_component.specs.Plain.{PlainComponent};
 ghost use Rattle.sdb_component.specs.Weight.{weight};
-ghost use Rattle.sdb_transform.specs.ActModel.{IsTransformFault};
+ghost use Rattle.sdb_transform.specs.ActModel.{IsTransformFault, opposite};
 ghost use Rattle.sdb_transform.specs.Cross.{cross_ops, transform_op};
 ghost use Rattle.sdb_transform.specs.Classification.{transformed_components};
 ghost use Rattle.sdb_transform.specs.CrossStack.{IsResultOfCross, IsOpTransform};
@@ -215,7 +216,8 @@ fn transform_one_against_all(
     Ok(Op::one(current))
 }
 
-// Transforms a component against another one, if the other's transform exists too.
+// Transforms a component against another one, if the other's transform exists too. An allocation
+// fails only if both exist.
 fn transform_borrowed_against(
     alloc: Global,
     component: Component,
@@ -226,6 +228,9 @@ fn transform_borrowed_against(
         → transform_op side (component ∷ []) (other.now ∷ rest) ≡ transform_op side (transformed_components s) rest) }
     ensures err { IfErr result (λ f. (rest : List PlainComponent)
         → IsTransformFault f (transform_op side (component ∷ []) (other.now ∷ rest))) }
+    ensures memory { IsErrOf result OutOfMemory
+        → (is_some (transform side component other.now) ≡ true)
+        × (is_some (transform (opposite side) other.now component) ≡ true) }
 {
     match classify(other, &component, side.opposite()) {
         TransformKind::Refused => Err(Fault::NotTransformed),

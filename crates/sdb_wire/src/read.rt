@@ -1,9 +1,13 @@
 //! The parser of messages.
-ghost use Rattle.std.specs.Prelude.{◌≡◌, ◌⊎◌, Ok, IfOk, IfErr, option_map, codes};
+ghost use Rattle.std.specs.Prelude.{◌≡◌, ◌⊎◌, ◌≤◌, ◌<◌, length, Ok, IfOk, IfErr, OnErr, IsTrue, option_map, codes};
+ghost use Rattle.json.specs.Lex.{tokens};
+ghost use Rattle.json.specs.Reads.{opens};
+ghost use Rattle.json.specs.Scratch.{room};
+ghost use Rattle.sdb_oplog.specs.declared.codes.Code.TheVariants.{E10};
 ghost use Rattle.sdb_json.specs.TreeData.{tree_data};
 ghost use Rattle.sdb_oplog.specs.Keys.{plain_key};
 ghost use Rattle.sdb_oplog.specs.Refusal.{IsRefusalOrOutOfMemory};
-ghost use Rattle.sdb_wire.specs.Wire.{key_of, hello_request_of, fetch_request_of, subscribe_request_of, unsubscribe_request_of, submit_request_of, snapshot_request_of, snapshot_at_time_request_of, request_of, content_of, is_delete, create_content, created_content, edit_content, wire, parse_message, parse_data, echo_of, echo_members, empty_echo};
+ghost use Rattle.sdb_wire.specs.Wire.{key_of, hello_request_of, fetch_request_of, subscribe_request_of, unsubscribe_request_of, submit_request_of, snapshot_request_of, snapshot_at_time_request_of, request_of, content_of, is_delete, create_content, created_content, edit_content, wire, message_limit, parse_message, parse_data, echo_of, echo_members, empty_echo};
 ghost use Rattle.sdb_wire.specs.View.{plain_request, plain_echo, plain_message, echo_or_empty, IsMessageFault, IsMessageFaultOf};
 
 use crate::codes::refusal_code;
@@ -37,6 +41,7 @@ pub fn read_message(alloc: Global, text: &str) -> Result<Request, BadMessage>
     ensures err { IfErr result (λ b. IsMessageFault b (wire text.now)) }
     // The echo is that of the message, or empty if an allocation failed.
     ensures echo { IfErr result (λ b. (plain_echo b.echo ≡ echo_of text.now) ⊎ (plain_echo b.echo ≡ empty_echo)) }
+    ensures memory { IfErr result (λ b. b.code ≡ E10 → length text.now ≤ message_limit) }
 {
     let mut scratch = Scratch::new(alloc);
     match parse_tree(alloc, text, &mut scratch) {
@@ -57,13 +62,14 @@ pub fn read_message(alloc: Global, text: &str) -> Result<Request, BadMessage>
 ///
 /// # Errors
 ///
-/// [`AllocError`] if an allocation fails.
+/// [`AllocError`] if an allocation fails. A text that isn't parsed allocates nothing.
 pub fn parse_message<'a>(
     alloc: Global,
     text: &'a str,
     scratch: &'a mut Scratch,
 ) -> Result<Message<'a>, AllocError>
-    ensures { IfOk result (λ m. plain_message m ≡ parse_message text.now) }
+    ensures ok { IfOk result (λ m. plain_message m ≡ parse_message text.now) }
+    ensures memory { OnErr result (length text.now ≤ message_limit) }
 {
     let Some(json) = parse_tree(alloc, text, scratch)? else {
         return Ok(Message {
@@ -85,13 +91,16 @@ pub fn parse_message<'a>(
 ///
 /// # Errors
 ///
-/// [`AllocError`] if an allocation fails.
+/// [`AllocError`] if an allocation fails, as for [`parse_json`]. A text that isn't parsed allocates
+/// nothing.
 pub fn parse_tree<'a>(
     alloc: Global,
     text: &'a str,
     scratch: &'a mut Scratch,
 ) -> Result<Option<JsonTree<'a>>, AllocError>
-    ensures { IfOk result (λ v. option_map tree_data v ≡ parse_data text.now) }
+    ensures ok { IfOk result (λ v. option_map tree_data v ≡ parse_data text.now) }
+    ensures memory { OnErr result (length text.now ≤ message_limit
+        × (IsTrue (opens (tokens text.now)) ⊎ (room scratch.old < length text.now))) }
 {
     if text.len() > MESSAGE_LIMIT {
         return Ok(None);
