@@ -43,6 +43,7 @@ use Rattle.sdb_striped_lock.proofs.striped_lock.StripedLock.TheSendSync as locks
 use Rattle.sdb_striped_lock.proofs.striped_lock.SeatSet.TheSendSync as seats
 use Rattle.sdb_backend.specs.contracts.backend.Backend as Backend
 use Rattle.sdb_backend.specs.contracts.counts.StoredCounts as StoredCounts
+use Rattle.sdb_backend.specs.contracts.work_limits.WorkLimits as WorkLimits
 use Rattle.sdb_backend.proofs.ValueSend.{Json-send, Json-sync}
 use Rattle.sdb_backend.specs.contracts.shard_value.Held as Held
 use Rattle.sdb_backend.specs.contracts.shard_value.HeldGrows.TheImpl as grows
@@ -208,9 +209,15 @@ StoredCounts-send = declared_send StoredCounts.the_type (search (sendable, cross
 StoredCounts-sync : IsSync StoredCounts.the_row
 StoredCounts-sync = declared_sync StoredCounts.the_type (search (sendable, crosses) depth 20)
 
+WorkLimits-send : IsSend WorkLimits.the_row
+WorkLimits-send = declared_send WorkLimits.the_type (search (sendable, crosses) depth 20)
+
+WorkLimits-sync : IsSync WorkLimits.the_row
+WorkLimits-sync = declared_sync WorkLimits.the_type (search (sendable, crosses) depth 20)
+
 module _ (R : RattleType) where
   pub Backend-send : IsSend R → IsSend (Backend.the_row R)
-  Backend-send s = declared_send (Backend.the_type R) (search (sendable, crosses) depth 20, (as_row_send (row_field R) s, (Locks-send, (StoredCounts-send, tt))))
+  Backend-send s = declared_send (Backend.the_type R) (search (sendable, crosses) depth 20, (as_row_send (row_field R) s, (Locks-send, (StoredCounts-send, (WorkLimits-send, tt)))))
 
   pub Backend-sync : IsSync R → IsSync (Backend.the_row R)
-  Backend-sync y = declared_sync (Backend.the_type R) (search (sendable, crosses) depth 20, (as_row_sync (row_field R) y, (Locks-sync, (StoredCounts-sync, tt))))
+  Backend-sync y = declared_sync (Backend.the_type R) (search (sendable, crosses) depth 20, (as_row_sync (row_field R) y, (Locks-sync, (StoredCounts-sync, (WorkLimits-sync, tt)))))

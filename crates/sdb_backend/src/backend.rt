@@ -16,6 +16,7 @@ use crate::counts::{Counts, StoredCounts};
 use crate::pass::{Host, Pass};
 use crate::pass_check::seat_sets_of;
 use crate::shard_value::Held;
+use crate::work_limits::WorkLimits;
 use sdb_growlock::Job;
 use sdb_oplog::{Code, Key};
 use sdb_striped_lock::{CloseBuffers, SeatSet, SplitFault, StripedLock};
@@ -41,6 +42,7 @@ pub struct Backend<R> {
     pub(crate) rt: R,
     pub(crate) locks: StripedLock<Held>,
     pub(crate) counts: StoredCounts,
+    pub(crate) limits: WorkLimits,
 }
 
 /// The reason why a backend can't be closed.
@@ -86,6 +88,7 @@ impl<R: Drop> Backend<R> {
             rt,
             locks,
             counts,
+            limits: WorkLimits::new(),
         };
         Ok((backend, Host { seats }))
     }
@@ -187,6 +190,18 @@ impl<R> Backend<R> {
     /// ```
     pub fn counts(&self) -> Counts {
         self.counts.load()
+    }
+
+    /// Sets whether the backend is full. A submission that a full one would store is answered E10,
+    /// as if an allocation failed; duplicates, other refusals and reads are answered as before. The
+    /// default is `false`.
+    pub fn set_full(&self, is_full: bool) {
+        self.limits.set_full(is_full);
+    }
+
+    /// Returns whether the backend is full.
+    pub fn is_full(&self) -> bool {
+        self.limits.is_full()
     }
 }
 

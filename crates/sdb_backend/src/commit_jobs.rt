@@ -63,12 +63,13 @@ impl<'a> Job<Held> for LookPartJob<'a> {
     }
 }
 
-// Decides the submission of a work if the log hasn't grown since its look. E10 if the list of
-// unsaved entries has no place for its entry.
+// Decides the submission of a work if the log hasn't grown since its look. E10 if the backend is
+// full or the list of unsaved entries has no place for its entry.
 pub(crate) struct CommitJob<'a> {
     pub(crate) key: &'a Key,
     pub(crate) work: &'a Work,
     pub(crate) now: Moment,
+    pub(crate) is_full: bool,
 }
 
 impl<'a> Job<Held> for CommitJob<'a> {
@@ -80,11 +81,16 @@ impl<'a> Job<Held> for CommitJob<'a> {
     ghost postcondition = { λ j n a b r. CommitsIfCurrent n (plain_key j.key.now) j.work.now j.now r a b };
 
     fn run(self, _number: u64, held: &mut Held) -> Option<CommitDecision> {
-        let Self { key, work, now } = self;
+        let Self {
+            key,
+            work,
+            now,
+            is_full,
+        } = self;
         if held.shard.version(key) != work.version() {
             return None;
         }
-        let place = match held.reserve_place(key) {
+        let place = match held.reserve_place(key, is_full) {
             Ok(place) => place,
             Err(error) => {
                 let rejection = held.shard.reject_work(key, work, error);
@@ -101,6 +107,7 @@ pub(crate) struct CommitNowJob<'a> {
     pub(crate) key: &'a Key,
     pub(crate) submission: &'a Submission,
     pub(crate) now: Moment,
+    pub(crate) is_full: bool,
 }
 
 impl<'a> Job<Held> for CommitNowJob<'a> {
@@ -117,12 +124,13 @@ impl<'a> Job<Held> for CommitNowJob<'a> {
             key,
             submission,
             now,
+            is_full,
         } = self;
-        let place = match held.reserve_place(key) {
+        let place = match held.reserve_place(key, is_full) {
             Ok(place) => place,
             Err(error) => return Reply::from(held.shard.reject_now(key, submission, error)),
         };
-        let reply = held.shard.commit_now(key, submission, now);
+        let reply = held.shard.commit_short(key, submission, now);
         held.list_reply(place, &reply);
         reply
     }
@@ -132,6 +140,7 @@ pub(crate) struct CommitLastJob<'a> {
     pub(crate) key: &'a Key,
     pub(crate) work: Work,
     pub(crate) now: Moment,
+    pub(crate) is_full: bool,
 }
 
 impl<'a> Job<Held> for CommitLastJob<'a> {
@@ -145,8 +154,13 @@ impl<'a> Job<Held> for CommitLastJob<'a> {
         × UnsavedAfterReply (plain_key j.key.now) (plain_reply r) (unsaved_of a) (unsaved_of b) };
 
     fn run(self, _number: u64, held: &mut Held) -> Reply {
-        let Self { key, work, now } = self;
-        let place = match held.reserve_place(key) {
+        let Self {
+            key,
+            work,
+            now,
+            is_full,
+        } = self;
+        let place = match held.reserve_place(key, is_full) {
             Ok(place) => place,
             Err(error) => return Reply::from(held.shard.reject_now(key, work.submission(), error)),
         };

@@ -14,7 +14,11 @@ use crate::jobs::{
     TakeJob, UnsubscribeJob, VersionJob,
 };
 use crate::pass::Pass;
-use sdb_desk::{CommitDecision, FetchResult, Look, Outcome, Reply, SubscribeResult, Work};
+use crate::work_limits::LONG_REBASE;
+use sdb_desk::{
+    Attempt, CommitDecision, FetchResult, Look, Outcome, Reply, SubscribeResult, Work,
+    rebase_pairs, transforms_edits,
+};
 use sdb_oplog::{Code, Entry, Key, Moment, Submission};
 use sdb_submit::{Desk, Gate, submit};
 use sdb_subscribe::SubId;
@@ -22,8 +26,12 @@ use std::alloc::{AllocError, Global};
 use std::sync::Wait;
 
 /// Each call gets the machine's answer at one history of the key's shard, an extension of what the
-/// pass has observed. Each call but `by` waits until the lock of its shard is free. A call that
-/// doesn't decide holds the lock only while it copies its result.
+/// pass has observed. Each call but `by`, `work` and `resume_work` waits until the lock of its shard
+/// is free. A call that doesn't decide holds the lock only while it copies its result.
+///
+/// A rebase above 65,536 pairs of components and a replay above 16,384 components take one of four
+/// places. A rebase without a place, or above 16,777,216 pairs, is refused, so its submission is
+/// answered E10 unless 16,384 pairs suffice. So is a read whose replay finds no place.
 impl<R: Wait + Drop> Desk for Backend<R> {
     type Pass = Pass;
 
@@ -46,6 +54,34 @@ impl<R: Wait + Drop> Desk for Backend<R> {
         self.look_from(pass, key, submission, Vec::new(self.alloc))
     }
 
+    fn work(&self, alloc: Global, attempt: Attempt) -> Result<Work, Attempt> {
+        let (content, missed) = (attempt.submission.content(), attempt.look.missed.as_slice());
+        if !transforms_edits(content, missed) {
+            return Work::compute(alloc, attempt);
+        }
+        let pairs = rebase_pairs(content, missed, LONG_REBASE);
+        let Some(work) = self.limits.begin_rebase(pairs) else {
+            return Err(attempt);
+        };
+        let made = Work::compute(alloc, attempt);
+        self.limits.end(work);
+        made
+    }
+
+    fn resume_work(&self, alloc: Global, last: Work, look: Look) -> Result<Work, Attempt> {
+        if !transforms_edits(last.submission().content(), look.missed.as_slice()) {
+            return last.resume(alloc, look);
+        }
+        let pairs = last.newer_pairs(look.missed.as_slice(), LONG_REBASE);
+        let Some(work) = self.limits.begin_rebase(pairs) else {
+            let Attempt { submission, .. } = last.into_attempt();
+            return Err(Attempt { submission, look });
+        };
+        let made = last.resume(alloc, look);
+        self.limits.end(work);
+        made
+    }
+
     fn commit(&self, pass: &mut Pass, key: &Key, work: &mut Work, now: Moment) -> Outcome {
         let decision = self.decide(pass, key, &*work, now);
         if let CommitDecision::Store { v } = &decision {
@@ -65,6 +101,7 @@ impl<R: Wait + Drop> Desk for Backend<R> {
             key,
             submission,
             now,
+            is_full: self.limits.is_full(),
         };
         let reply = self.run(pass, key, commit);
         self.counts.record_reply(&reply);
@@ -75,7 +112,7 @@ impl<R: Wait + Drop> Desk for Backend<R> {
         let Ok(look) = self.look(pass, key, work.submission()) else {
             return self.commit_now(pass, key, work.submission(), now);
         };
-        match work.resume(self.alloc, look) {
+        match self.resume_work(self.alloc, work, look) {
             Ok(resumed) => self.commit_resumed(pass, key, resumed, now),
             Err(attempt) => self.commit_now(pass, key, &attempt.submission, now),
         }

@@ -23,6 +23,7 @@ mod restoring;
 mod saving;
 mod shard_value;
 mod unsaved;
+mod work_limits;
 
 pub use audit::Audit;
 pub use backend::{Backend, CloseError, CloseRefused};

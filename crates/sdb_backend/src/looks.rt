@@ -74,7 +74,16 @@ impl<R: Wait + Drop> Backend<R> {
         ensures answered { AnsweredAtExtension (plain_key key.now) (commit work.now now) pass.old
             (outcome_of_decision work.now result) pass.new }
     {
-        match self.run(pass, key, CommitJob { key, work, now }) {
+        match self.run(
+            pass,
+            key,
+            CommitJob {
+                key,
+                work,
+                now,
+                is_full: self.limits.is_full(),
+            },
+        ) {
             Some(decision) => decision,
             None => CommitDecision::Reply(self.look_again(pass, key, work)),
         }
@@ -95,7 +104,16 @@ impl<R: Wait + Drop> Backend<R> {
         ensures answered { AnsweredAtExtension (plain_key key.now) (commit_now work.submission now) pass.old
             (plain_reply result) pass.new }
     {
-        let reply = self.run(pass, key, CommitLastJob { key, work, now });
+        let reply = self.run(
+            pass,
+            key,
+            CommitLastJob {
+                key,
+                work,
+                now,
+                is_full: self.limits.is_full(),
+            },
+        );
         self.counts.record_reply(&reply);
         reply
     }

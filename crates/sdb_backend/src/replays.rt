@@ -13,6 +13,7 @@ ghost use Rattle.sdb_backend.specs.ReplaysInParts.{CopiedAtExtension, HasOnlyRea
 use crate::backend::Backend;
 use crate::jobs::{OfferJob, OpsBetweenJob, ReplayBaseAt, ReplayBaseAtMomentJob, ReplayBaseJob};
 use crate::pass::Pass;
+use crate::work_limits::SHORT_REPLAY;
 use sdb_desk::{FetchResult, ReplayBase};
 use sdb_oplog::{Code, Entry, Key, Moment};
 use sdb_value::Json;
@@ -93,6 +94,11 @@ fn replay_in_parts<S: EntrySource>(
     Ok(snapshot)
 }
 
+// Returns whether a replay to a version takes long.
+fn is_long(base: &ReplayBase, version: u64) -> bool {
+    version.saturating_sub(base.version) > MAX_REPLAY || base.component_count() > SHORT_REPLAY
+}
+
 impl<R: Wait + Drop> Backend<R> {
     // Returns the document at a version.
     pub(crate) fn snapshot_of(
@@ -147,6 +153,31 @@ impl<R: Wait + Drop> Backend<R> {
         Ok(FetchResult { version, snapshot })
     }
 
+    // Replays a document to a version, if it isn't long or a place is free.
+    fn replay_in_place(
+        &self,
+        pass: &mut Pass,
+        key: &Key,
+        base: ReplayBase,
+        version: u64,
+    ) -> Result<Option<Json>, Code>
+        requires pass { IsPassOfBackend pass.old self.now }
+        requires base { IsReplayBaseSeenBy pass.old (plain_key key.now) version MAX_REPLAY
+            (plain_replay_base base) }
+        ensures pass { IsPassOfBackend pass.new self.now }
+        ensures read { HasOnlyRead (plain_key key.now) pass.old pass.new }
+        ensures ok { IfOk result
+            (λ d. IsDocumentSeenBy pass.new (plain_key key.now) version (option_map value_of d)) }
+        ensures err { IfErr result (λ code. code ≡ E10) }
+    {
+        let Some(work) = self.limits.begin(is_long(&base, version)) else {
+            return Err(Code::E10);
+        };
+        let replayed = replay_in_parts(self.alloc, self, pass, key, base, version);
+        self.limits.end(work);
+        replayed
+    }
+
     // Replays a document to a version, and offers it to the cache.
     fn replay(
         &self,
@@ -164,7 +195,7 @@ impl<R: Wait + Drop> Backend<R> {
             (λ d. IsSnapshotSeenBy pass.new (plain_key key.now) version (option_map value_of d)) }
         ensures err { IfErr result (λ code. code ≡ E10) }
     {
-        let snapshot = replay_in_parts(self.alloc, self, pass, key, base, version)?;
+        let snapshot = self.replay_in_place(pass, key, base, version)?;
         let offer = OfferJob {
             key,
             version,

@@ -16,6 +16,7 @@ use crate::pass::Host;
 use crate::restoration::Restoration;
 use crate::saving::SHARD_COUNT;
 use crate::shard_value::Held;
+use crate::work_limits::WorkLimits;
 use sdb_desk::Reply;
 use sdb_oplog::{Key, Log, Moment, Submission};
 use sdb_striped_lock::StripedLock;
@@ -105,6 +106,7 @@ impl Restoration {
             rt,
             locks,
             counts,
+            limits: WorkLimits::new(),
         };
         Ok((backend, Host { seats }))
     }

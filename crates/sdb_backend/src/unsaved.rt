@@ -18,13 +18,21 @@ pub struct EntryAt {
 }
 
 impl Held {
-    // Reserves a place for an entry of a key, if entries are listed. Returns the key of the place.
-    pub(crate) fn reserve_place(&mut self, key: &Key) -> Result<Option<Key>, AllocError>
+    // Reserves a place for an entry of a key, if entries are listed. Returns the key of the place. A
+    // full backend has no place.
+    pub(crate) fn reserve_place(
+        &mut self,
+        key: &Key,
+        is_full: bool,
+    ) -> Result<Option<Key>, AllocError>
         ensures shard { self.new.shard ≡ self.old.shard }
         ensures unsaved { unsaved_of self.new ≡ unsaved_of self.old }
         ensures room { IfOk result (λ place. HasRoom place self.new.unsaved) }
         ensures place { IfOk result (λ place. IsPlaceFor (plain_key key.now) place self.new.unsaved) }
     {
+        if is_full {
+            return Err(AllocError);
+        }
         let Some(entries) = &mut self.unsaved else {
             return Ok(None);
         };

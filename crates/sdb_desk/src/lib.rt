@@ -3,6 +3,7 @@
 
 mod document;
 mod document_slot;
+mod rebase_size;
 mod replay_base;
 mod resume;
 mod shard;
@@ -13,6 +14,7 @@ mod shard_refusals;
 mod work;
 
 pub use document::Reply;
+pub use rebase_size::{rebase_pairs, transforms_edits};
 pub use replay_base::ReplayBase;
 pub use shard::{CommitDecision, FetchResult, Outcome, Shard, SubscribeResult};
 pub use shard_refusals::MAX_PAIRS_LOCKED;

@@ -5,6 +5,7 @@ ghost use Rattle.sdb_oplog.specs.Snap.{snap_from};
 ghost use Rattle.sdb_desk.specs.View.{plain_replay_base};
 ghost use Rattle.sdb_oplog.specs.declared.codes.Code.TheVariants.{E10};
 
+use crate::rebase_size::component_count;
 use sdb_oplog::{Code, Entry};
 use sdb_value::Json;
 use std::alloc::Global;
@@ -49,6 +50,16 @@ impl ReplayBase {
             value.freeze(alloc)?;
         }
         Ok(replayed)
+    }
+
+    /// Returns the number of components of the entries. A create, a delete and an edit without
+    /// components count as one.
+    pub fn component_count(&self) -> usize {
+        let mut count: usize = 0;
+        for entry in &self.entries {
+            count = count.saturating_add(component_count(entry.content()).max(1));
+        }
+        count
     }
 }
 

@@ -155,6 +155,21 @@ impl Shard {
         }
     }
 
+    /// Decides as [`commit_now`](Shard::commit_now) does, except that a rebase of more than
+    /// [`MAX_PAIRS_LOCKED`] pairs of components is `Refused(E10)`, so that work under a lock is
+    /// bounded.
+    ///
+    /// [`MAX_PAIRS_LOCKED`]: crate::MAX_PAIRS_LOCKED
+    pub fn commit_short(&mut self, key: &Key, submission: &Submission, now: Moment) -> Reply
+        ensures { StateAfterDecision (plain_key key.now) submission.now now (plain_reply result)
+            (state_of self.old) (state_of self.new) }
+    {
+        if self.takes_too_long(key, submission) {
+            return Reply::from(self.reject_long(key, submission));
+        }
+        self.commit_now(key, submission, now)
+    }
+
     /// Decides the submission of a work at a moment, in one step, even if the log has grown since
     /// its look. Only newer entries are transformed against. If an allocation for this fails, it
     /// decides as [`Shard::commit_now`] does.
@@ -172,11 +187,8 @@ impl Shard {
     }
 
     /// Decides as [`commit_last`](Shard::commit_last) does. It copies and transforms against only
-    /// the entries that were stored after the look of the work. A rebase of more than
-    /// [`MAX_PAIRS_LOCKED`] pairs of components is `Refused(E10)`, so that work under a lock is
-    /// bounded.
-    ///
-    /// [`MAX_PAIRS_LOCKED`]: crate::MAX_PAIRS_LOCKED
+    /// the entries that were stored after the look of the work, and is bounded as
+    /// [`commit_short`](Shard::commit_short) is.
     pub fn commit_newer(&mut self, key: &Key, work: Work, now: Moment) -> Reply
         requires { IsLook (log_at self.old key.now) work }
         ensures { StateAfterDecision (plain_key key.now) work.submission now (plain_reply result)
@@ -186,11 +198,11 @@ impl Shard {
             return Reply::from(self.reject_long(key, work.submission()));
         }
         let Ok(newer) = self.look_after(key, work.submission(), work.missed().len()) else {
-            return self.commit_now(key, work.submission(), now);
+            return self.commit_short(key, work.submission(), now);
         };
         match work.extend(self.alloc, newer) {
             Ok(extended) => self.commit_current(key, extended, now),
-            Err(submission) => self.commit_now(key, &submission, now),
+            Err(submission) => self.commit_short(key, &submission, now),
         }
     }
 

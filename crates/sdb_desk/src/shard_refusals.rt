@@ -10,13 +10,14 @@ ghost use Rattle.sdb_desk.specs.ShardView.{log_at, state_of};
 ghost use Rattle.sdb_desk.specs.StateChanges.{StateAfterCommit, StateAfterDecision};
 
 use crate::document::entries_after;
+use crate::rebase_size::{rebase_pairs, transforms_edits};
 use crate::shard::Shard;
 use crate::work::Work;
-use sdb_component::Act;
-use sdb_oplog::{Code, Content, Entry, Key, Kind, Rejection, Submission};
+use sdb_oplog::{Code, Entry, Key, Rejection, Submission};
 use std::alloc::AllocError;
 
-/// Greatest number of pairs of components that [`Shard::commit_newer`] transforms under a lock.
+/// Greatest number of pairs of components that [`Shard::commit_short`] and
+/// [`Shard::commit_newer`] transform under a lock.
 pub const MAX_PAIRS_LOCKED: usize = 16_384;
 
 impl Shard {
@@ -77,70 +78,17 @@ impl Shard {
             (missed_entries (log_at self.now key.now) work.now.submission) ≡ true }
     {
         let missed = self.missed_entries(key, work.submission());
-        let newer = entries_after(missed, work.missed().len());
         transforms_edits(work.submission().content(), missed)
-            && pair_bound(work, newer) > MAX_PAIRS_LOCKED
+            && work.newer_pairs(missed, MAX_PAIRS_LOCKED) > MAX_PAIRS_LOCKED
     }
-}
 
-// Returns whether the rebase of a content begins with an edit against an edit.
-fn transforms_edits(content: &Content, entries: &[Entry]) -> bool
-    ensures { IsTrue result → rebase_allocates content.now entries.now ≡ true }
-{
-    match (content.kind(), entries.first()) {
-        (Kind::Edit(_), Some(first)) => matches!(first.content().kind(), Kind::Edit(_)),
-        _ => false,
+    // Returns whether it takes too long under a lock to rebase a submission.
+    pub(crate) fn takes_too_long(&self, key: &Key, submission: &Submission) -> bool
+        ensures { IsTrue result → rebase_allocates submission.now.content
+            (missed_entries (log_at self.now key.now) submission.now) ≡ true }
+    {
+        let missed = self.missed_entries(key, submission);
+        transforms_edits(submission.content(), missed)
+            && rebase_pairs(submission.content(), missed, MAX_PAIRS_LOCKED) > MAX_PAIRS_LOCKED
     }
-}
-
-// Returns a bound on the number of pairs of components that it takes to rebase a work's content on
-// further entries. Only deletions of text are split, each into at most as many parts as it has bytes,
-// and only at components of the other side that aren't split.
-fn pair_bound(work: &Work, entries: &[Entry]) -> usize {
-    let content = match work.content() {
-        Ok(content) => content.unwrap_or(work.submission().content()),
-        Err(_) => return 0,
-    };
-    let count = component_count(content);
-    let parts = part_limit(content).min(count.saturating_add(total_count(entries)));
-    let mut pairs: usize = 0;
-    for entry in entries {
-        let splits = component_count(entry.content()).saturating_add(count);
-        let others = part_limit(entry.content()).min(splits);
-        pairs = pairs.saturating_add(others.saturating_mul(parts));
-    }
-    pairs
-}
-
-// Returns the number of components of the entries.
-fn total_count(entries: &[Entry]) -> usize {
-    let mut count: usize = 0;
-    for entry in entries {
-        count = count.saturating_add(component_count(entry.content()));
-    }
-    count
-}
-
-// Returns the number of an edit's components, and 0 for another content.
-fn component_count(content: &Content) -> usize {
-    match content.kind() {
-        Kind::Edit(op) => op.components().len(),
-        _ => 0,
-    }
-}
-
-// Returns the greatest number of components into which those of an edit can be split, and 0 for
-// another content.
-fn part_limit(content: &Content) -> usize {
-    let Kind::Edit(op) = content.kind() else {
-        return 0;
-    };
-    let mut parts: usize = 0;
-    for component in op.components() {
-        parts = parts.saturating_add(match component.act() {
-            Act::Sd(_, text) => text.as_str().len().max(1),
-            _ => 1,
-        });
-    }
-    parts
 }

@@ -8,7 +8,8 @@ ghost use Rattle.sdb_value.specs.View.{value_of};
 ghost use Rattle.sdb_desk.specs.Machine.{WorkAfterCommit, work_result, work_allocates};
 ghost use Rattle.sdb_desk.specs.View.{rebased_content_of, plain_document_result, plain_attempt, plain_outcome, outcome_of_decision};
 
-use crate::document::Reply;
+use crate::document::{Reply, entries_after};
+use crate::rebase_size::rebase_pairs;
 use crate::shard::{CommitDecision, Outcome};
 use sdb_oplog::{Code, Content, Entry, Kind, Submission, rebase};
 use sdb_value::Json;
@@ -212,6 +213,21 @@ impl Work {
         match &self.new_document {
             Ok(next_document) => Ok(next_document.as_ref()),
             Err(code) => Err(*code),
+        }
+    }
+
+    /// Returns a bound on the number of pairs of components that it takes to rebase this work on
+    /// those of the missed entries of a newer look that this one hasn't, as [`rebase_pairs`] does.
+    ///
+    /// [`rebase_pairs`]: crate::rebase_pairs
+    pub fn newer_pairs(&self, missed: &[Entry], max: usize) -> usize {
+        let newer = entries_after(missed, self.attempt.look.missed.len());
+        match &self.rebased {
+            RebasedContent::Unchanged => {
+                rebase_pairs(self.attempt.submission.content(), newer, max)
+            }
+            RebasedContent::Changed(content) => rebase_pairs(content, newer, max),
+            RebasedContent::Refused(_) => 0,
         }
     }
 

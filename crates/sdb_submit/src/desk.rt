@@ -1,16 +1,17 @@
 //! The interface of a document store.
-ghost use Rattle.std.specs.Prelude.{◌≡◌, ℕ, IfOk};
+ghost use Rattle.std.specs.Prelude.{◌≡◌, ℕ, true, IfOk, IfErr, OnErr};
 ghost use Rattle.sdb_oplog.specs.Keys.{PlainKey, plain_key};
-ghost use Rattle.sdb_desk.specs.Machine.{WorkAfterCommit, PlainAttempt};
-ghost use Rattle.sdb_desk.specs.View.{plain_look, plain_outcome, fetch_result_view, entries_view, subscribe_result_view, taken_view};
+ghost use Rattle.sdb_desk.specs.Machine.{WorkAfterCommit, PlainAttempt, work_allocates};
+ghost use Rattle.sdb_desk.specs.View.{plain_attempt, plain_look, plain_outcome, fetch_result_view, entries_view, subscribe_result_view, taken_view};
 ghost use Rattle.sdb_desk.specs.ReplyView.{plain_reply};
 ghost use Rattle.sdb_submit.specs.Calls.{PlainCall, look, commit, commit_now, current_version, fetch, ops_from, ops_between, snapshot, snapshot_at_time, forget, subscribe, take_next, unsubscribe, CallAnswer, OnMoved, copied_entries_view, look_view};
 ghost use Rattle.sdb_submit.specs.PassModel.{CanSubmit, IsCall};
 
-use sdb_desk::{FetchResult, Look, Outcome, Reply, SubscribeResult, Work};
+use crate::work_step::{resume_work, work};
+use sdb_desk::{Attempt, FetchResult, Look, Outcome, Reply, SubscribeResult, Work};
 use sdb_oplog::{Code, Entry, Key, Moment, Submission};
 use sdb_subscribe::SubId;
-use std::alloc::AllocError;
+use std::alloc::{AllocError, Global};
 
 /// The interface of a document store: looks, commits, reads and queues. An implementation defines
 /// how each call relates the pass before it, its answer and the pass after it.
@@ -55,6 +56,37 @@ pub trait Desk {
             (record { submission = submission.now; look = plain_look l }) pass.new) }
         ensures call { IsCall accepts pass_number step caches_step self.now (plain_key key.now)
             (look submission.now) pass.old (look_view result) pass.new };
+
+    /// Computes the work of an attempt, as [`work`] does. A desk of many callers may refuse a work
+    /// that takes long.
+    ///
+    /// # Errors
+    ///
+    /// The attempt, unchanged, if an allocation fails or the work is refused. An edit against an edit
+    /// is transformed then, or a document changed.
+    fn work(&self, alloc: Global, attempt: Attempt) -> Result<Work, Attempt>
+        ensures ok { IfOk result (λ w. w ≡ plain_attempt attempt) }
+        ensures err { IfErr result (λ a. plain_attempt a ≡ plain_attempt attempt) }
+        ensures memory { OnErr result (work_allocates (plain_attempt attempt) ≡ true) }
+    {
+        work(alloc, attempt)
+    }
+
+    /// Computes the work of a submission for a newer look, as [`resume_work`] does. A desk of many
+    /// callers may refuse a work that takes long.
+    ///
+    /// # Errors
+    ///
+    /// The attempt with the newer look, as of [`work`](Desk::work). The last work is then lost.
+    fn resume_work(&self, alloc: Global, last: Work, look: Look) -> Result<Work, Attempt>
+        ensures ok { IfOk result (λ w. w ≡ record { submission = last.submission; look = plain_look look }) }
+        ensures err { IfErr result
+            (λ a. plain_attempt a ≡ record { submission = last.submission; look = plain_look look }) }
+        ensures memory { OnErr result
+            (work_allocates (record { submission = last.submission; look = plain_look look }) ≡ true) }
+    {
+        resume_work(alloc, last, look)
+    }
 
     /// Decides the work's submission at a moment if the log hasn't grown since its look. Otherwise
     /// returns a new look.

@@ -8,7 +8,6 @@ ghost use Rattle.sdb_submit.specs.PassModel.{CanSubmit, IsNextPass};
 ghost use Rattle.sdb_submit.specs.SubmitLoop.{SubmitRelation};
 
 use crate::desk::{Desk, Gate};
-use crate::work_step::{resume_work, work};
 use sdb_desk::{Attempt, Outcome, Reply};
 use sdb_oplog::{Code, Key, Moment, Submission};
 use std::alloc::Global;
@@ -17,8 +16,9 @@ use std::alloc::Global;
 /// commit that decides. A try that finds a longer log continues from its new look, as does the last
 /// commit. Refusals and duplicates are decided at a commit too.
 ///
-/// Only if an allocation fails for a look, a work or a commit, `commit_now` decides at once. It
-/// replies E10 only if the decision itself fails to allocate, and nothing changes then.
+/// Only if an allocation fails for a look, a work or a commit, or the desk refuses a work that takes
+/// long, `commit_now` decides at once. It replies E10 only if the decision itself fails to allocate
+/// or takes too long for the desk, and nothing changes then.
 ///
 /// ```
 /// let (mut shard, now) = (Shard::new(alloc), Moment::zero());
@@ -42,7 +42,7 @@ pub fn submit<D: Desk, G: Gate>(
     let Ok(look) = desk.look(pass, key, &submission) else {
         return desk.commit_now(pass, key, &submission, now);
     };
-    let mut made = work(alloc, Attempt { submission, look });
+    let mut made = desk.work(alloc, Attempt { submission, look });
     for try_no in 1..=8 {
         let mut worked = match made {
             Ok(worked) => worked,
@@ -56,7 +56,7 @@ pub fn submit<D: Desk, G: Gate>(
                 }
                 return reply;
             }
-            Outcome::Moved(fresh) => made = resume_work(alloc, worked, fresh),
+            Outcome::Moved(fresh) => made = desk.resume_work(alloc, worked, fresh),
         }
     }
     match made {

@@ -11,12 +11,12 @@ pub returns-clause-extends : goal.returns-clause-extends
 returns-clause-extends c =
     let e = sym c.list_reply.ensures.shard in
     let m = machine_of c.args.held.now.shard in
-    let decides = subst (λ h. StateAfterDecision (plain_key c.args.self.key.now) c.args.self.submission.now c.args.self.now (plain_reply c.commit_now-reply.result) (state_of h) (state_of c.commit_now-reply.new.self)) c.in-Ok.ensures.shard c.commit_now-reply.ensures in
-    (subst (λ s. MachineGrows c.args._number m (machine_of s)) e (call_grown _ _ _ _ _ _ c.requires (commit_now_call c.args._number (plain_key c.args.self.key.now) (state_of c.args.held.now.shard) (state_of c.commit_now-reply.new.self) c.args.self.submission.now c.args.self.now (plain_reply c.commit_now-reply.result) decides))).extends
+    let decides = subst (λ h. StateAfterDecision (plain_key c.args.self.key.now) c.args.self.submission.now c.args.self.now (plain_reply c.commit_short-reply.result) (state_of h) (state_of c.commit_short-reply.new.self)) c.in-Ok.ensures.shard c.commit_short-reply.ensures in
+    (subst (λ s. MachineGrows c.args._number m (machine_of s)) e (call_grown _ _ _ _ _ _ c.requires (commit_now_call c.args._number (plain_key c.args.self.key.now) (state_of c.args.held.now.shard) (state_of c.commit_short-reply.new.self) c.args.self.submission.now c.args.self.now (plain_reply c.commit_short-reply.result) decides))).extends
 
 pub returns-clause-others_unchanged : goal.returns-clause-others_unchanged
 returns-clause-others_unchanged c =
     let e = sym c.list_reply.ensures.shard in
     let m = machine_of c.args.held.now.shard in
-    let decides = subst (λ h. StateAfterDecision (plain_key c.args.self.key.now) c.args.self.submission.now c.args.self.now (plain_reply c.commit_now-reply.result) (state_of h) (state_of c.commit_now-reply.new.self)) c.in-Ok.ensures.shard c.commit_now-reply.ensures in
-    (subst (λ s. MachineGrows c.args._number m (machine_of s)) e (call_grown _ _ _ _ _ _ c.requires (commit_now_call c.args._number (plain_key c.args.self.key.now) (state_of c.args.held.now.shard) (state_of c.commit_now-reply.new.self) c.args.self.submission.now c.args.self.now (plain_reply c.commit_now-reply.result) decides))).others
+    let decides = subst (λ h. StateAfterDecision (plain_key c.args.self.key.now) c.args.self.submission.now c.args.self.now (plain_reply c.commit_short-reply.result) (state_of h) (state_of c.commit_short-reply.new.self)) c.in-Ok.ensures.shard c.commit_short-reply.ensures in
+    (subst (λ s. MachineGrows c.args._number m (machine_of s)) e (call_grown _ _ _ _ _ _ c.requires (commit_now_call c.args._number (plain_key c.args.self.key.now) (state_of c.args.held.now.shard) (state_of c.commit_short-reply.new.self) c.args.self.submission.now c.args.self.now (plain_reply c.commit_short-reply.result) decides))).others

@@ -25,8 +25,8 @@ returns-in_default g c =
       };
     }
 
-pub returns-in-Ok-resume : goal.returns-in-Ok-resume
-returns-in-Ok-resume g c =
+pub returns-in-Ok-resume_work : goal.returns-in-Ok-resume_work
+returns-in-Ok-resume_work g c =
     let k = plain_key c.args.key.now in
     let s = c.args.work.submission in
     let l = c.look.ensures.call in
@@ -34,7 +34,7 @@ returns-in-Ok-resume g c =
     let q = c.commit_resumed.new.pass in
     let r = plain_reply c.commit_resumed.result in
     let d = c.commit_resumed.ensures.answered in
-    let step = subst (λ (x : PlainSubmission). AnsweredAtExtension k (commit_now x c.args.now) o r q) (ap (λ w. w.submission) c.in-Ok-resume.ensures.ok) d in
+    let step = subst (λ (x : PlainSubmission). AnsweredAtExtension k (commit_now x c.args.now) o r q) (ap (λ w. w.submission) c.in-Ok-resume_work.ensures.ok) d in
     record {
       call = record {
         pass = record { accepted = c.commit_resumed.ensures.pass; number_unchanged = d.number_unchanged ∙ l.pass.number_unchanged };
