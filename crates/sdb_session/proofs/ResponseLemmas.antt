@@ -18,9 +18,9 @@ use Rattle.sdb_wire.specs.Wire.{PlainEcho, parse_message, PlainRequest, fetch, s
 use Rattle.sdb_wire.specs.Answers.{PlainAnswer, answer_text, failed}
 use Rattle.sdb_session.specs.PolicyModel.{PlainPolicy, may_submit}
 use Rattle.sdb_session.specs.ProjectionModel.{base_of, base_key, projected_value, projection_of_key, is_permitted}
-use Rattle.sdb_session.specs.Sessions.{QueueId, PlainSession, queue_of, is_subscription_full, with_subscription}
+use Rattle.sdb_session.specs.Sessions.{PlainSession, queue_of, is_subscription_full, with_subscription}
 use Rattle.sdb_session.specs.View.{OutputUnlessFailed}
-use Rattle.sdb_session.specs.Responses.{PlainSubscribeReply, SubmitCalls, RefuseCalls, CloseCalls, OpenCalls, OpensAndTakes, OpenAndTakeCalls, SubscribeCalls, first_batch_len, submission_of, fetch_answers, submit_answers, snapshot_answers, moment_answers, subscribe_answers, RequestOutcome, MessageOutcome, TextOutcome}
+use Rattle.sdb_session.specs.Responses.{PlainSubscribeReply, SubmitCalls, RefuseCalls, CloseCalls, OpensAndTakes, OpenAndTakeCalls, SubscribeCalls, first_batch_len, submission_of, fetch_answers, submit_answers, snapshot_answers, moment_answers, subscribe_answers, RequestOutcome, MessageOutcome, TextOutcome}
 use Rattle.sdb_session.specs.declared.documents.ReadPoint.{ReadPoint}
 use Rattle.sdb_session.specs.declared.documents.ReadPoint.TheVariants.{Current, Version, Moment}
 
@@ -55,12 +55,6 @@ module _ {P : Type 0} (acts : PlainKey → CallRelation P) (v : Option ℕ) (p q
       → OpenAndTakeCalls acts b v (queue_of k s.subs) p r q → SubscribeCalls acts (is_subscription_full k s.subs) base v (queue_of k s.subs) p r q
   subscribe_of_open s k b base r full same h =
       subst (λ x. SubscribeCalls acts x base v (queue_of k s.subs) p r q) (sym full) (subst (λ x. OpenAndTakeCalls acts x v (queue_of k s.subs) p r q) same h)
-
-  -- a queue that could not be kept was opened and closed again
-  taken_of_open : (b : PlainKey) (old : Option QueueId) (code : Code) → OpenCalls acts b v p (Err code) q → OpenAndTakeCalls acts b v old p (Err code) q
-  taken_of_open b old code (inl h) = inl h
-  taken_of_open b old code (inr h) =
-      inr (record { opened = h.opened; after_open = h.after_open; after_failure = h.after_failure; opens = h.opens; fails_after = inl h.fails_after; closes = h.closes; is_memory = h.is_memory })
 
 -- the policy allows the submission, and this projection permits its content
 abbrev is_allowed : PlainPolicy → PlainSession → PlainKey → Option (List ℕ) → PlainContent → Option PlainProjection → Bool
@@ -138,8 +132,8 @@ module _ {P : Type 0} {acts : PlainKey → CallRelation P} {e : PlainEcho} {by n
       record { reply = r; calls = subst (λ x. SubscribeCalls acts x (base_key pol.projections k) v (queue_of k s.subs) p r q) (sym full) there; session_is = refl; said = said }
 
   module _ (v : Option ℕ) (b : PlainKey) (full : is_subscription_full k s.subs ≡ false) (base : b ≡ base_of o k) where
-    pub not_opened_outcome : {new : PlainSession} (code : Code) → new ≡ s → OpenCalls acts b v p (Err code) q → says (failed e code ∷ []) → RequestOutcome acts e pol by now s (subscribe k v) p says new q
-    not_opened_outcome code same h said = record { reply = Err code; calls = subscribe_of_open acts v p q s k b (base_key pol.projections k) (Err code) full (base_key_of_projection pol.projections k o seen b base) (taken_of_open acts v p q b (queue_of k s.subs) code h); session_is = same; said = said }
+    pub not_opened_outcome : {new : PlainSession} (code : Code) → new ≡ s → acts b (subscribe_call v) p (Err code) q → says (failed e code ∷ []) → RequestOutcome acts e pol by now s (subscribe k v) p says new q
+    not_opened_outcome code same h said = record { reply = Err code; calls = subscribe_of_open acts v p q s k b (base_key pol.projections k) (Err code) full (base_key_of_projection pol.projections k o seen b base) (inl h); session_is = same; said = said }
 
     -- a subscription without a version
     pub opened_outcome : {new : PlainSession} (opened : PlainSubscribeResult) (mid : PlainSession) (m : P) → v ≡ None → acts b (subscribe_call v) p (Ok opened) m → mid ≡ s

@@ -39,10 +39,10 @@ module _ {P : Type 0} (acts : PlainKey → CallRelation P) where
   ReadsFrom None b v xs p q = ReadsBatches (acts b) v xs p q
   ReadsFrom (Some n) b v xs p q = TakesBatches (acts b) n xs p q
 
-  -- an allocation fails for a batch or, before it, for the subscription
+  -- an allocation fails for a batch
   abbrev pub FailsToRead : Option ℕ → PlainKey → ℕ → ℕ → P → P → Type 0
   FailsToRead None b v end p q = (n : ℕ) × (acts b (ops_between v n) p None q × (n ≤ end))
-  FailsToRead (Some i) b v end p q = (q ≡ p) ⊎ ((n : ℕ) × acts b (take_next i n) p None q)
+  FailsToRead (Some i) b v end p q = (n : ℕ) × acts b (take_next i n) p None q
 
   -- the new queue, if any, is closed
   abbrev pub ClosesNewQueue : Option ℕ → PlainKey → P → P → Type 0

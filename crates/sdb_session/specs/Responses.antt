@@ -86,9 +86,9 @@ module _ {P : Type 0} (acts : PlainKey → CallRelation P) where
     pub all : total_size batches ≡ first_batch_len v o.version
     pub entries_are : es ≡ entries_of batches
 
-  -- an allocation fails for the first batch or, before it, for the subscription
+  -- an allocation fails for the first batch
   abbrev pub FailsToTake : PlainKey → PlainSubscribeResult → P → P → Type 0
-  FailsToTake b o p q = (q ≡ p) ⊎ ((n : ℕ) × acts b (take_next o.id n) p None q)
+  FailsToTake b o p q = (n : ℕ) × acts b (take_next o.id n) p None q
 
   -- a queue was opened, some of its first entries were read, and it was closed again
   pub record SubscribeInterrupted (b : PlainKey) (v : Option ℕ) (p q : P) : Type 0 where
@@ -109,11 +109,6 @@ module _ {P : Type 0} (acts : PlainKey → CallRelation P) where
     pub fails_after : fails opened after_open after_failure
     pub closes : acts b (unsubscribe_call opened.id) after_failure tt q
     pub is_memory : code ≡ E10
-
-  -- a queue is opened; if the allocation for its subscription fails, it is closed again
-  abbrev pub OpenCalls : PlainKey → Option ℕ → P → Result PlainSubscribeResult Code → P → Type 0
-  OpenCalls b v p (Ok o) q = acts b (subscribe_call v) p (Ok o) q
-  OpenCalls b v p (Err code) q = acts b (subscribe_call v) p (Err code) q ⊎ OpensAndCloses b v p (λ o m n. n ≡ m) code q
 
   -- a queue is opened, its first entries are read, and the old queue is closed
   pub record OpensAndTakes (b : PlainKey) (v : Option ℕ) (old : Option QueueId) (p : P) (j : PlainSubscribeReply) (q : P)

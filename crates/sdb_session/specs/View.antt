@@ -52,10 +52,6 @@ plain_projection_option o = option_map (λ p. plain_projection p.now) o
 abbrev pub plain_opened : SubscribeResult → PlainSubscribeResult
 plain_opened s = record { id = s.id; start = s.start; version = s.version; snapshot = option_map value_of s.snapshot }
 
-abbrev pub open_result : {E : Type 0} → Result SubscribeResult E → Result PlainSubscribeResult E
-open_result (Ok s) = Ok (plain_opened s)
-open_result (Err e) = Err e
-
 -- the entries that were read; `None` means that an allocation failed
 abbrev pub taken_entries_view : Result (Vec PlainEntry Global) AllocError → Option (List PlainEntry)
 taken_entries_view (Ok v) = Some v.items

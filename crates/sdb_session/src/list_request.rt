@@ -1,5 +1,5 @@
 //! Requests that are answered by a listing: its beginning, its parts and its end.
-ghost use Rattle.std.specs.Prelude.{◌≡◌, ℕ, ◌<◌, ◌∷◌, [], IfOk, IfSome, Some, true, OnOk, OnErr};
+ghost use Rattle.std.specs.Prelude.{◌≡◌, ℕ, ◌<◌, ◌∷◌, [], IfOk, IfSome, Some, true, OnOk};
 ghost use Rattle.std.specs.Option.{is_some};
 ghost use Rattle.std.specs.Result.{is_err};
 ghost use Rattle.indexmap.specs.IndexMap.{spare};
@@ -112,7 +112,7 @@ impl Session {
     {
         if let Err(error) = self.reserve_for(&listing) {
             listing.abandon(desk, pass);
-            return Err(BatchFault::NotRead { error });
+            return Err(BatchFault::NotWritten { error });
         }
         let projection = table.find(listing.key.collection.as_str());
         if let Err(fault) = listing.write_batch(self.alloc, desk, pass, projection, out) {
@@ -131,12 +131,11 @@ impl Session {
         ensures session { plain_session self.new ≡ plain_session self.old }
         ensures capacity { OnOk result (is_some (plain_listing listing.now).queue ≡ true
             → 0 < spare self.new.subscriptions) }
-        ensures needed { OnErr result (is_some (plain_listing listing.now).queue ≡ true) }
         ensures ended_unchanged { self.new.ended ≡ self.old.ended }
     {
         match listing.queue {
             None => Ok(()),
-            Some(_) => self.subscriptions.reserve(1),
+            Some(_) => self.reserve_subscription(),
         }
     }
 

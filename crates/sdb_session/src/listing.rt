@@ -39,7 +39,7 @@ pub struct Listing {
 pub(crate) enum BatchFault {
     // An allocation failed before anything was written.
     NotRead { error: AllocError },
-    // An allocation failed for an answer.
+    // An allocation failed for an answer or for the subscription.
     NotWritten { error: AllocError },
 }
 

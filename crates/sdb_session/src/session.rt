@@ -27,7 +27,7 @@ use std::alloc::{AllocError, Global};
 /// Maximum number of subscriptions of one session.
 pub const SUBSCRIPTION_LIMIT: usize = 64;
 
-/// The state of a session that failed to allocate for a message, a name or an answer.
+/// The state of a session that failed to allocate for a message, a name, a subscription or an answer.
 #[derive(Clone, Copy, Drop)]
 pub struct Ended {
     error: AllocError,
@@ -173,9 +173,9 @@ impl Session {
     ///
     /// # Errors
     ///
-    /// [`Ended`] if an allocation fails for a parsed message, a name or an answer, or if the
-    /// session had ended. Each later call fails too. Stored operations stay stored, and `out` is
-    /// unspecified.
+    /// [`Ended`] if an allocation fails for a parsed message, a name, a subscription or an answer, or
+    /// if the session had ended. Each later call fails too. Stored operations stay stored, and `out`
+    /// is unspecified.
     pub fn handle_to<D: Desk, P: Policy, O: AnswerSink>(
         &mut self,
         desk: &D,

@@ -1,13 +1,13 @@
 //! Requests that open or close a queue.
-ghost use Rattle.std.specs.Prelude.{◌≡◌, ℕ, ◌<◌, ◌∷◌, [], IfOk, OnOk, OnErr, Ok, Err, None};
+ghost use Rattle.std.specs.Prelude.{◌≡◌, ◌<◌, ◌∷◌, [], OnOk, Ok, Err, None};
 ghost use Rattle.indexmap.specs.IndexMap.{spare};
 ghost use Rattle.sdb_oplog.specs.Keys.{plain_key};
 ghost use Rattle.sdb_submit.specs.PassModel.{IsNextPass};
 ghost use Rattle.sdb_session.specs.Handlers.{RequestHandled};
 ghost use Rattle.sdb_session.specs.ListingView.{listing_result};
-ghost use Rattle.sdb_session.specs.Responses.{CloseCalls, RefuseCalls, OpenCalls, subscribe_answers, PlainSubscribeReply};
+ghost use Rattle.sdb_session.specs.Responses.{CloseCalls, RefuseCalls, subscribe_answers};
 ghost use Rattle.sdb_session.specs.Sessions.{is_subscription_full, insert_subscription, queue_of, with_subscription, without_subscription};
-ghost use Rattle.sdb_session.specs.View.{open_result, plain_opened, queue_id_of, plain_session, plain_projection_option, OutputUnlessFailed, WroteAnswers};
+ghost use Rattle.sdb_session.specs.View.{plain_opened, queue_id_of, plain_session, plain_projection_option, OutputUnlessFailed, WroteAnswers};
 ghost use Rattle.sdb_wire.specs.Answers.{unsubscribed};
 ghost use Rattle.sdb_wire.specs.Wire.{subscribe};
 
@@ -60,7 +60,8 @@ impl Session {
             let refused = write_refusal(context.alloc, context.message, code, out);
             return without_listing(refused);
         }
-        let opened = match self.open_queue(context.desk, pass, &base, version) {
+        self.reserve_subscription()?;
+        let opened = match context.desk.subscribe(pass, &base, version) {
             Ok(opened) => opened,
             Err(code) => {
                 let refused = write_refusal(context.alloc, context.message, code, out);
@@ -85,31 +86,13 @@ impl Session {
         }
     }
 
-    // Opens a queue and reserves space for its subscription. If that fails, the queue is closed
-    // again.
-    fn open_queue<D: Desk>(
-        &mut self,
-        desk: &D,
-        pass: &mut D::Pass,
-        base: &Key,
-        version: Option<u64>,
-    ) -> Result<SubscribeResult, Code>
-        requires accepted { D.accepts desk.now pass.old }
-        ensures pass { IsNextPass D.accepts D.pass_number desk.now pass.old pass.new }
-        ensures opens { OpenCalls (D.step desk.now) (plain_key base.now) version pass.old (open_result result)
-            pass.new }
+    // Reserves space for a subscription.
+    pub(crate) fn reserve_subscription(&mut self) -> Result<(), AllocError>
         ensures capacity { OnOk result (0 < spare self.new.subscriptions) }
         ensures session { plain_session self.new ≡ plain_session self.old }
         ensures ended_unchanged { self.new.ended ≡ self.old.ended }
     {
-        let opened = desk.subscribe(pass, base, version)?;
-        match self.subscriptions.reserve(1) {
-            Ok(()) => Ok(opened),
-            Err(error) => {
-                desk.unsubscribe(pass, base, opened.id);
-                Err(Code::from(error))
-            }
-        }
+        self.subscriptions.reserve(1)
     }
 
     // Writes the document, and replaces the key's queue. Space for the new one is reserved.

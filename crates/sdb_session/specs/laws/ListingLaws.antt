@@ -176,8 +176,7 @@ module _ {P : Type 0} (acts : PlainKey → CallRelation P) where
     queue_fault : (b : PlainKey) (v n i : ℕ) (between last : P) → (last ≡ between) ⊎ FailsToRead acts (Some i) b v n between last
         → (last ≡ between) ⊎ ((j : ℕ) × acts b (take_next i j) between None last)
     queue_fault b v n i between last (inl e) = inl e
-    queue_fault b v n i between last (inr (inl e)) = inl e
-    queue_fault b v n i between last (inr (inr f)) = inr f
+    queue_fault b v n i between last (inr f) = inr f
 
     -- the listing is interrupted
     pub opened_interrupted : (r : PlainRequest) (p : P) (l : PlainListing) (m q : P) → ListingOpens acts t s r p l m → ListingInterrupted acts l m q

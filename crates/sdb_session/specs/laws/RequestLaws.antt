@@ -251,8 +251,7 @@ module _ {P : Type 0} (machine : P → Machine) where
     -- an allocation failure for a new queue's first entries changes nothing
     began : (k : PlainKey) (v : Option ℕ) (o : PlainSubscribeResult) (m n : P)
         → FailsToTake MachineActs (base_key t k) o m n → machine n ≡ machine m
-    began k v o m n (inl h) = ap machine h
-    began k v o m n (inr (max, takes)) = takes_none (machine m) (machine n) (base_key t k) o.id max takes
+    began k v o m n (max, takes) = takes_none (machine m) (machine n) (base_key t k) o.id max takes
 
     joins : (k : PlainKey) (v : Option ℕ) (r : Result PlainSubscribeReply Code)
         → OpenAndTakeCalls MachineActs (base_key t k) v (queue_of k s.subs) p r q → Joined false k v r

@@ -31,7 +31,7 @@ returns-in-Err-clause-outcome g c =
     let e = echo_of_message c.args.context.now.message in
     let o = plain_projection_option c.find-projection.result in
     let s = plain_session c.args.self.now in
-    let new = plain_session c.open_queue.new.self in
+    let new = plain_session c.reserve_subscription.new.self in
     let code = c.in-Err.code in
     let w = c.write_refusal-refused-in-Err.result in
     let says = WroteAnswers g.O.AnswerSink.items (g.O.AnswerSink.contents c.args.out.now) (g.O.AnswerSink.contents c.write_refusal-refused-in-Err.new.out) in
@@ -39,7 +39,7 @@ returns-in-Err-clause-outcome g c =
     let full = sym c.is_subscription_full.ensures ∙ c.if-is_subscription_full.false in
     equal_part _ _ _ _ _ s _ says new _ _ _ _ _ refl c.without_listing-in-Err.ensures
     (answered _ _ _ _ _ s _ says new _ _ w
-    (not_opened_outcome (policy_of_context g.P.Policy.plain_policy c.args.context.now) k seen c.args.version (plain_key c.in_ok-base.base) full c.in_ok-base.ensures code c.in-Err.ensures.session c.in-Err.ensures.opens (on_output w says (failed e code ∷ []) c.write_refusal-refused-in-Err.ensures)))
+    (not_opened_outcome (policy_of_context g.P.Policy.plain_policy c.args.context.now) k seen c.args.version (plain_key c.in_ok-base.base) full c.in_ok-base.ensures code c.reserve_subscription.ensures.session c.in-Err.ensures.call.step (on_output w says (failed e code ∷ []) c.write_refusal-refused-in-Err.ensures)))
 
 pub returns-in-None-clause-outcome : goal.returns-in-None-clause-outcome
 returns-in-None-clause-outcome g c =
@@ -47,7 +47,7 @@ returns-in-None-clause-outcome g c =
     let t = c.args.context.now.table.now in
     let o = plain_projection_option c.find-projection.result in
     let s = plain_session c.args.self.now in
-    let mid = plain_session c.open_queue.new.self in
+    let mid = plain_session c.reserve_subscription.new.self in
     let new = plain_session c.subscribe_document.new.self in
     let opened = plain_opened c.in-Ok.opened in
     let w = c.subscribe_document.result in
@@ -56,5 +56,5 @@ returns-in-None-clause-outcome g c =
     let full = sym c.is_subscription_full.ensures ∙ c.if-is_subscription_full.false in
     equal_part _ _ _ _ _ s _ says new _ _ _ _ _ refl c.without_listing-in-None.ensures
     (answered _ _ _ _ _ s _ says new _ _ w
-    (opened_outcome (policy_of_context g.P.Policy.plain_policy c.args.context.now) k seen c.args.version (plain_key c.in_ok-base.base) full c.in_ok-base.ensures opened mid c.open_queue.new.pass c.in-None.is c.in-Ok.ensures.opens c.in-Ok.ensures.session
+    (opened_outcome (policy_of_context g.P.Policy.plain_policy c.args.context.now) k seen c.args.version (plain_key c.in_ok-base.base) full c.in_ok-base.ensures opened mid c.subscribe.new.pass c.in-None.is c.in-Ok.ensures.call.step c.reserve_subscription.ensures.session
     c.subscribe_document.ensures.close_calls c.subscribe_document.ensures.session (on_output w says (subscribe_answers o k None (record { opened = opened; first = [] })) c.subscribe_document.ensures.output)))
