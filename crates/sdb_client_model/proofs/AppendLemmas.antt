@@ -55,7 +55,7 @@ not_stored_first : (b : Bool) (o : Option ℕ) → b ≡ false → o ≡ None �
 not_stored_first true o h k = cc
 not_stored_first false o h k = ap (option_map (λ i. i + 1)) k
 
-not_same_identifier : (s : List ℕ) (n : ℕ) (e : PlainEntry) → (e.arrived.src ≡ s → e.arrived.seq < n) → has_identifier s n e ≡ false
+pub not_same_identifier : (s : List ℕ) (n : ℕ) (e : PlainEntry) → (e.arrived.src ≡ s → e.arrived.seq < n) → has_identifier s n e ≡ false
 not_same_identifier s n e h = elim (cases_Bool (has_identifier s n e)) [
   | inl t ↦ (let p = identifier_parts s n e t in let low = h p.0 in absurd (omega (arith, low, p.1)))
   | inr f ↦ f

@@ -64,7 +64,7 @@ consistent_step (decide_edit m via by now) old new h step = subst IsConsistent (
 consistent_step (process_entry source) old new h step =
     subst IsConsistent (sym step.new_is) (consistent_entry old h source step.entry step.later step.entry_is step.client step.client_is)
 
-consistent_run : (steps : List ClientStep) (old new : SharedDocument) → IsConsistent old → IsClientRun steps old new → IsConsistent new
+pub consistent_run : (steps : List ClientStep) (old new : SharedDocument) → IsConsistent old → IsClientRun steps old new → IsConsistent new
 consistent_run [] old new h run = subst IsConsistent (sym run) h
 consistent_run (step ∷ steps) old new h run = consistent_run steps run.0 new (consistent_step step old run.0 h run.1) run.2
 

@@ -31,14 +31,14 @@ created = record {
   arrived = record { src = codes "creator"; seq = 1; version = Some 0; content = create (list no_items); via = codes "c"; by = 0 };
 }
 
-abbrev start : SharedDocument
+abbrev pub start : SharedDocument
 start = record {
   log = created ∷ [];
   clients = λ source. record { version = 1; document = list no_items; pending = []; sent = None; next_seq = 2 };
   submitted = [];
 }
 
-row_start : IsStart start
+pub row_start : IsStart start
 row_start = record {
   log_is_made = (refl, tt);
   clients = λ source. record { version = refl; document = refl; pending = refl; sent = refl; seqs = ((λ is. omega arith), tt) };
@@ -47,19 +47,19 @@ row_start = record {
 
 -- ---- the steps: both insert an item at index 0 and send it; the second one inserts another one behind its own
 
-abbrev a : List ℕ
+abbrev pub a : List ℕ
 a = codes "a"
 
-abbrev b : List ℕ
+abbrev pub b : List ℕ
 b = codes "b"
 
 abbrev insert : ℕ → Value → List PlainComponent
 insert i v = component_at [] (li i v) ∷ []
 
-abbrev first_of_a : List PlainComponent
+abbrev pub first_of_a : List PlainComponent
 first_of_a = insert 0 (truth true)
 
-abbrev first_of_b : List PlainComponent
+abbrev pub first_of_b : List PlainComponent
 first_of_b = insert 0 (truth false)
 
 abbrev second_of_b : List PlainComponent
@@ -227,7 +227,7 @@ module _ (log : List PlainEntry) (submission : PlainSubmission) (op : List Plain
 no_insert_adds : (i : ℕ) (v : Value) → AreNoAdditions (insert i v)
 no_insert_adds i v = ((λ x h. cc), tt)
 
-insert_made : (i : ℕ) (v : Value) (ds es : Items) → IsWellFormed v → apply_one (component_at [] (li i v)) (list ds) ≡ Some (list es) → AreMadeFor (insert i v) (list ds)
+pub insert_made : (i : ℕ) (v : Value) (ds es : Items) → IsWellFormed v → apply_one (component_at [] (li i v)) (list ds) ≡ Some (list es) → AreMadeFor (insert i v) (list ds)
 insert_made i v ds es w h = ((record { position = list ds; result = list es; found = refl; accepted = h; key = tt }, tt), ((tt, w), tt))
 
 never_none : {G A : Type 0} (x : A) → Some x ≡ None → G

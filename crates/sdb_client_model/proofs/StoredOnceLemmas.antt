@@ -99,7 +99,7 @@ moved_then source step steps old mid new a b =
 
 -- ---- a step that stores and sends nothing
 
-abbrev HasSameEdits : List ℕ → SharedDocument → Client → Type 0
+abbrev pub HasSameEdits : List ℕ → SharedDocument → Client → Type 0
 HasSameEdits source old c =
     (unstored_seqs old.log source c.sent ≡ unstored_seqs old.log source (old.clients source).sent)
     × (c.next_seq ≡ (old.clients source).next_seq) × (length (queued_edits c) ≡ length (queued_edits (old.clients source)))
@@ -367,7 +367,7 @@ module _ (source : List ℕ) (old : SharedDocument) (e : PlainEntry) (later : Li
             ∙ sym (ap (λ o. length (queue_after o (old.clients source).pending)) sent),
       )
 
-  same_after_entry : (b : Bool) → is_sent_edit source (old.clients source).sent e ≡ b
+  pub same_after_entry : (b : Bool) → is_sent_edit source (old.clients source).sent e ≡ b
       → cond b (after_acknowledgement (old.clients source) (old.clients source).pending) (after_content (old.clients source) e.content) ≡ Some c → HasSameEdits source old c
   same_after_entry true own k = same_after_acknowledgement (old.clients source).sent refl own k
   same_after_entry false other k =
@@ -439,7 +439,7 @@ new_identifier : (log : List PlainEntry) (e : PlainEntry) (o : Option ℕ) → s
 new_identifier log e None is h = ap is_none is
 new_identifier log e (Some i) is h = absurd (append_changes log e (sym (ap (λ d. d.log) (decides_repeat log e.arrived e.moment i is)) ∙ h))
 
-identifiers_new : (before es : List PlainEntry) → IsMadeFrom before es → are_identifiers_new before es ≡ true
+pub identifiers_new : (before es : List PlainEntry) → IsMadeFrom before es → are_identifiers_new before es ≡ true
 identifiers_new before [] h = refl
 identifiers_new before (e ∷ es) h =
     and_from (is_none (stored_at e.arrived.src e.arrived.seq before)) (are_identifiers_new (before ++ e ∷ []) es)

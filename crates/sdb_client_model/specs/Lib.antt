@@ -3,6 +3,14 @@ pub mod Convergence
 pub mod MadeEdits
 pub mod Invariant
 pub mod Machine
+pub mod Messages
+pub mod MessageMachine
+pub mod MessageLaws
 pub mod RunPremises
+pub mod SavingLaws
+pub mod SavingMachine
+pub mod SessionMessages
 pub mod SmallRuns
+pub mod SmallMessageRuns
+pub mod SmallSavingRuns
 pub mod StoredOnce

@@ -4,8 +4,8 @@
 -- never, and a client may process the entry at its version at any time. So a run also stands for channels that lose
 -- messages, for a submission that is sent again, for a lost connection after which a client fetches the entries from
 -- its version on, and for acknowledgements and operations that arrive before the client's version reaches them. The
--- client keeps those, and `process_entry` is the moment when it processes one. A client that starts later has made no
--- edit yet.
+-- client keeps those, and `process_entry` is the moment when it processes one. `MessageMachine.antt` has these messages.
+-- A client that starts later has made no edit yet.
 use Rattle.std.specs.Prelude.{◌≡◌, ℕ, List, [], ◌∷◌, ◌++◌, drop, cond, Some, None, bytes_eq, Contains}
 use Rattle.sdb_component.specs.Plain.{PlainComponent}
 use Rattle.sdb_oplog.specs.Plain.{edit, PlainSubmission, PlainEntry}
