@@ -89,6 +89,16 @@ impl<R: Drop, P: Drop> LoopServer<R, P> {
         self
     }
 
+    /// Sets the resident memory in bytes above which no operation is stored: those that would be are
+    /// answered E10, until the memory is below it. The loops compare once a second. Without a limit,
+    /// the default, all are stored.
+    pub fn with_memory_limit(mut self, limit: Option<u64>) -> LoopServer<R, P>
+        ensures { loops_backend result ≡ loops_backend self }
+    {
+        self.loops.settings.memory_limit = limit;
+        self
+    }
+
     /// Sets the progress of a thread that saves stored operations. Without one, the default, no output
     /// waits for a save.
     ///
@@ -143,8 +153,20 @@ impl<R, P> LoopServer<R, P> {
             start: (time.moment_millis / 1_000).saturating_sub(time.second),
             uptime: time.second,
             resident: resident_memory(),
+            memory_limit: self.loops.settings.memory_limit,
+            is_full: self.backend.is_full(),
             tally: self.metrics.load(),
             saving: progress.map(|progress| progress.record().load()),
+        }
+    }
+
+    /// Compares the memory of the process with its limit, if there is one.
+    pub fn check_memory(&self) {
+        if let (Some(limit), Some(resident)) = (
+            self.loops.settings.memory_limit,
+            resident_memory(),
+        ) {
+            self.backend.set_full(resident > limit);
         }
     }
 

@@ -30,14 +30,15 @@ impl<R: Net + Wait + Clock + Eprint + Copy + Drop, P: Policy + Drop, B: PassBran
         !self.clock.is_ending() && self.context.loops().flags.is_ending()
     }
 
-    /// Checks the deadlines of all connections once a second, and ends all once the server is
-    /// shutting down. Lists anew whose output is held: a connection may be missing if an allocation
-    /// failed.
+    /// Checks the memory of the server and the deadlines of all connections once a second, and ends
+    /// all once the server is shutting down. Lists anew whose output is held: a connection may be
+    /// missing if an allocation failed.
     pub(crate) fn sweep(&mut self) {
         let begins_end = self.begins_end();
         if !self.clock.begin_sweep(begins_end) {
             return;
         }
+        self.context.state.check_memory();
         let is_crowded = !self.context.loops().counts.has_room();
         let is_unsaved = self.context.loops().settings.is_unsaved();
         self.connections.lists.begin_held();

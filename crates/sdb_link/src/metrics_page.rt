@@ -47,6 +47,18 @@ const RESIDENT: Metric = Metric {
     help: "Resident memory of the process in bytes.",
 };
 
+const MEMORY_LIMIT: Metric = Metric {
+    name: "navirotsohy_memory_limit_bytes",
+    kind: GAUGE,
+    help: "Resident memory in bytes above which no operation is stored.",
+};
+
+const STORING: Metric = Metric {
+    name: "navirotsohy_storing",
+    kind: GAUGE,
+    help: "Whether operations are stored: 0 while the memory is above its limit.",
+};
+
 const CLIENTS: Metric = Metric {
     name: "navirotsohy_clients",
     kind: GAUGE,
@@ -164,6 +176,10 @@ pub fn metrics_text(alloc: Global, status: &ServerStatus) -> Result<String, Allo
     write_number(&mut text, UPTIME, status.uptime)?;
     if let Some(resident) = status.resident {
         write_number(&mut text, RESIDENT, resident)?;
+    }
+    if let Some(limit) = status.memory_limit {
+        write_number(&mut text, MEMORY_LIMIT, limit)?;
+        write_number(&mut text, STORING, !status.is_full as u64)?;
     }
     write_number(&mut text, CLIENTS, status.clients as u64)?;
     write_number(&mut text, SUBSCRIPTIONS, status.tally.subscriptions())?;

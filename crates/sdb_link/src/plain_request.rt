@@ -7,7 +7,7 @@ use std::alloc::{AllocError, Global};
 use std::net::IpAddr;
 
 /// The server's version.
-pub const VERSION: &str = "1.0.0";
+pub const VERSION: &str = "0.1.0";
 
 // Maximum number of header fields of a request that is read here.
 const FIELD_LIMIT: usize = 128;
@@ -18,10 +18,11 @@ const UPGRADE_REQUIRED: &str = "HTTP/1.1 426 Upgrade Required\r\n\
     Connection: Upgrade, close\r\n\
     Sec-WebSocket-Version: 13\r\n\
     Content-Type: text/plain\r\n\
-    Content-Length: 62\r\n\
+    Content-Length: 75\r\n\
     \r\n";
 
-const UPGRADE_TEXT: &str = "This is a ShareDB server. Its clients connect by a WebSocket.\n";
+const UPGRADE_TEXT: &str =
+    "This is Navirotsohy, a ShareDB server. Its clients connect by a WebSocket.\n";
 
 /// The page that a plain request asks for.
 #[derive(Clone, Copy, PartialEq, Eq, Drop)]
@@ -57,6 +58,10 @@ pub struct ServerStatus {
     pub uptime: u64,
     /// The resident memory of the process in bytes, if the system tells it.
     pub resident: Option<u64>,
+    /// The resident memory in bytes above which no operation is stored, if there is such a limit.
+    pub memory_limit: Option<u64>,
+    /// Whether no operation is stored, since the memory is above its limit.
+    pub is_full: bool,
     /// What the server has done.
     pub tally: Tally,
     /// What rounds have done, if operations are saved.
@@ -174,6 +179,9 @@ fn health_text(alloc: Global, status: &ServerStatus) -> Result<String, AllocErro
         "{{\"version\":\"{VERSION}\",\"clients\":{clients},\"documents\":{documents},\"entries\":{entries},\"uptime\":{uptime}"
     )?;
     write_saving(&mut text, status)?;
+    if status.memory_limit.is_some() {
+        write!(&mut text, ",\"storing\":{}", !status.is_full)?;
+    }
     writeln!(&mut text, "}}")?;
     Ok(text)
 }

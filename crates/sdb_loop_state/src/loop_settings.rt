@@ -14,16 +14,20 @@ pub struct LoopSettings {
     pub is_keeping: bool,
     /// The progress of saving, if operations are saved.
     pub progress: Option<Arc<SaveProgress, Global>>,
+    /// The resident memory in bytes above which no operation is stored.
+    pub memory_limit: Option<u64>,
 }
 
 impl LoopSettings {
-    /// Creates the settings of a server that logs and saves nothing, has no proxy and keeps passes.
+    /// Creates the settings of a server that logs and saves nothing, has no proxy and no limit of memory,
+    /// and keeps passes.
     pub fn new() -> LoopSettings {
         LoopSettings {
             is_logging: false,
             is_proxied: false,
             is_keeping: true,
             progress: None,
+            memory_limit: None,
         }
     }
 

@@ -3,7 +3,7 @@ use Rattle.std.specs.Prelude.{◌≡◌, refl, ℕ, ◌+◌, List, [], ◌∷◌
 use Rattle.std.specs.Option.{option_map_or}
 use Rattle.std.proofs.Common.{sym, ap, ◌∙◌, subst}
 use Rattle.sdb_linefile.specs.Lines.{AcceptsAll}
-use Rattle.sdb_journal.specs.JournalText.{JournalItem, restore_from}
+use Rattle.sdb_dump.specs.JournalText.{JournalItem, restore_from}
 use Rattle.sdb_store.specs.RestorerModel.{HasRestored, RestorerAfterLine}
 use Rattle.sdb_server_cli.specs.declared.store_file.RestoringSink.{RestoringSink}
 

@@ -1,6 +1,6 @@
 -- What a server has restored from the lines of its store.
 use Rattle.std.specs.Prelude.{◌≡◌, ℕ, List, Ok}
-use Rattle.sdb_journal.specs.JournalText.{JournalItem, restore}
+use Rattle.sdb_dump.specs.JournalText.{JournalItem, restore}
 use Rattle.sdb_store.specs.RestorerModel.{HasRestored, IsBackendOfRestorer}
 use Rattle.sdb_store.specs.declared.restorer.Restorer.{Restorer}
 use Rattle.sdb_store.specs.declared.restorer.RestoredBackend.{RestoredBackend}

@@ -19,6 +19,9 @@ use std::thread;
 use std::thread::{Threads, available_parallelism};
 use std::time::Clock;
 
+// The number of bytes of a unit of `--memory`.
+const MEBIBYTE: u64 = 1_048_576;
+
 // The number of bytes of standard input discarded per read.
 const INPUT_CHUNK: usize = 4_096;
 
@@ -43,6 +46,8 @@ pub struct ServeOptions {
     pub loops: Option<usize>,
     /// Maximum number of clients served at once. `None` is 64.
     pub clients: Option<usize>,
+    /// The resident memory in MiB above which no operation is stored. `None` is no limit.
+    pub memory: Option<usize>,
     /// Whether the start and the end of each session are logged.
     pub is_logging: bool,
     /// Whether the log has the addresses of clients that a proxy forwards.
@@ -56,6 +61,12 @@ impl ServeOptions {
             loops: self.loops.unwrap_or(default_loops(rt)),
             clients: self.clients.unwrap_or(DEFAULT_LOOP_CLIENTS),
         }
+    }
+
+    // Returns the limit of memory in bytes.
+    fn memory_limit(self) -> Option<u64> {
+        let mebibytes = self.memory? as u64;
+        Some(mebibytes.saturating_mul(MEBIBYTE))
     }
 }
 
@@ -213,7 +224,8 @@ pub(crate) fn loop_server<R: AllocGlobal + Threads + Drop>(
     let logging = state.with_log(options.is_logging);
     let proxied = logging.with_proxy(options.is_proxied);
     let limited = proxied.with_session_limit(limit);
-    Ok(limited.with_passes_kept(is_closing))
+    let bounded = limited.with_memory_limit(options.memory_limit());
+    Ok(bounded.with_passes_kept(is_closing))
 }
 
 // Prints the address of the listener, to standard error if standard output is for the dump.

@@ -1,19 +1,13 @@
 //! Storing a dump in a new file.
-ghost use Rattle.std.specs.Prelude.{OnOk};
-ghost use Rattle.sdb_store.specs.RestorerModel.{IsRestorer};
-
-use crate::store_file::{BLOCK_START, print_store_fault};
+use crate::store_file::print_store_fault;
 use crate::store_task::{ACCEPTED, print_counts};
 use sdb_backend::Counts;
-use sdb_dump::DumpFault;
+use sdb_dump::{DumpFault, check_dump, read_line};
 use sdb_linefile::{LineFile, LineFileError, LineSink, UnreadFile};
-use sdb_store::{RestoreFault, Restorer};
+use sdb_lines::{CountingReader, first_line_feed};
 use sqlite::Alter;
 use std::alloc::{AllocError, Global};
-use std::io::BufRead;
-
-// The first line of a dump in version 2.
-const HEADER: &[u8] = b"{\"dump\":2}";
+use std::io::{ErrorKind, Read};
 
 /// The lines of a dump that was checked, or of a store that is recovered.
 #[derive(Drop)]
@@ -24,135 +18,51 @@ pub struct LoadedDump {
     pub(crate) verb: &'static str,
 }
 
-// Reads the lines of a dump.
-#[derive(Drop)]
-struct DumpLines<I> {
-    input: I,
-    // The line that was read last, and its number.
-    line: Vec<u8>,
-    number: u128,
+/// Reads a dump to its end, and checks it: each of its entries is the one that is stored for its
+/// submission. A store has no entry of number 0, which is no session's.
+pub(crate) fn read_dump<I: Read + Drop>(alloc: Global, input: I) -> Result<LoadedDump, DumpFault> {
+    let text = read_text(alloc, input)?;
+    let documents = check_dump(alloc, &mut CountingReader::new(text.as_slice()))?.documents;
+    let lines = entry_lines(alloc, text.as_slice())?;
+    let entries = lines.len() as u64;
+    Ok(LoadedDump {
+        lines,
+        counts: Counts { documents, entries },
+        verb: ACCEPTED,
+    })
 }
 
-impl<I: BufRead> DumpLines<I> {
-    fn new(alloc: Global, input: I) -> DumpLines<I> {
-        DumpLines {
-            input,
-            line: Vec::new(alloc),
-            number: 0,
-        }
-    }
-
-    // Reads the next line, without its line feed. Returns `false` if there is none.
-    fn read_next(&mut self) -> Result<bool, DumpFault> {
-        self.line.clear();
-        self.number = self.number.saturating_add(1);
-        match self.input.read_until(b'\n', &mut self.line) {
-            Ok(0) => Ok(false),
-            Ok(_) => {
-                if self.line.last() == Some(&b'\n') {
-                    self.line.pop();
-                }
-                Ok(true)
-            }
-            Err(_) => Err(DumpFault::ReadFailed),
-        }
-    }
-
-    fn wrong_line(&self) -> DumpFault {
-        DumpFault::WrongLine { line: self.number }
-    }
-
-    // Returns the fault of a line that isn't restored.
-    fn fault(&self, fault: RestoreFault) -> DumpFault {
-        match fault {
-            RestoreFault::WrongLine => self.wrong_line(),
-            RestoreFault::OutOfMemory => DumpFault::OutOfMemory,
-        }
-    }
-
-    // Reads the header.
-    fn read_header(&mut self) -> Result<(), DumpFault> {
-        if self.read_next()? && self.line.as_slice() == HEADER {
-            Ok(())
-        } else {
-            Err(self.wrong_line())
-        }
-    }
-
-    // Reads the end after the last line.
-    fn read_end(&mut self) -> Result<(), DumpFault> {
-        if self.read_next()? {
-            Err(self.wrong_line())
-        } else {
-            Ok(())
-        }
-    }
-
-    // Returns whether the line is the last one of a dump with so many entries.
-    fn is_count(&self, alloc: Global, entries: usize) -> Result<bool, AllocError> {
-        let count = format!(in alloc; "{{\"entries\":{entries}}}")?;
-        Ok(count.as_bytes() == self.line.as_slice())
-    }
-
-    // Restores the entry of the line. A dump has no line of a block of numbers.
-    fn restore_to(&self, restorer: &mut Restorer) -> Result<(), DumpFault>
-        requires { IsRestorer restorer.old }
-        ensures { IsRestorer restorer.new }
-    {
-        if self.line.as_slice().starts_with(BLOCK_START) {
-            return Err(self.wrong_line());
-        }
-        match restorer.restore_line(self.line.as_slice()) {
-            Ok(()) => Ok(()),
-            Err(fault) => Err(self.fault(fault)),
-        }
+fn read_text<I: Read + Drop>(alloc: Global, mut input: I) -> Result<Vec<u8>, DumpFault> {
+    let mut text = Vec::new(alloc);
+    match input.read_to_end(&mut text) {
+        Ok(_) => Ok(text),
+        Err(error) => match error.kind() {
+            ErrorKind::OutOfMemory => Err(DumpFault::OutOfMemory),
+            _ => Err(DumpFault::ReadFailed),
+        },
     }
 }
 
-/// Reads a dump in version 2 to its end, and checks it: each of its entries is the one that is
-/// stored for its submission.
-pub(crate) fn read_dump<R, I>(rt: R, input: I) -> Result<LoadedDump, DumpFault>
-where
-    R: AllocGlobal + Drop,
-    I: BufRead + Drop,
-{
-    let alloc = rt.alloc();
-    let mut restorer = Restorer::new(alloc)?;
-    let mut dump = DumpLines::new(alloc, input);
-    let lines = read_entries(alloc, &mut dump, &mut restorer)?;
-    match restorer.finish(rt) {
-        Ok(restored) => Ok(LoadedDump {
-            lines,
-            counts: restored.backend.counts(),
-            verb: ACCEPTED,
-        }),
-        Err(fault) => Err(dump.fault(fault)),
-    }
-}
-
-// Restores the entries of a dump, and returns their lines.
-fn read_entries<I: BufRead>(
-    alloc: Global,
-    dump: &mut DumpLines<I>,
-    restorer: &mut Restorer,
-) -> Result<Vec<Vec<u8>>, DumpFault>
-    requires { IsRestorer restorer.old }
-    ensures { IsRestorer restorer.new }
-{
-    dump.read_header()?;
+// Returns the lines of the entries of a dump that was checked: all but the header and the count.
+fn entry_lines(alloc: Global, text: &[u8]) -> Result<Vec<Vec<u8>>, DumpFault> {
     let mut lines: Vec<Vec<u8>> = Vec::new(alloc);
+    let mut rest = text;
     for _ in 0..u64::MAX {
-        if !dump.read_next()? {
-            return Err(dump.wrong_line());
-        }
-        if dump.is_count(alloc, lines.len())? {
-            dump.read_end()?;
+        let Some(at) = first_line_feed(rest) else {
             return Ok(lines);
+        };
+        let line = &rest[..at];
+        rest = &rest[at + 1..];
+        match read_line(alloc, line)? {
+            Some(content) if content.submission.by() == 0 => {
+                let line = lines.len() as u128 + 2;
+                return Err(DumpFault::WrongLine { line });
+            }
+            Some(_) => push_copy(alloc, &mut lines, line)?,
+            None => {}
         }
-        dump.restore_to(restorer)?;
-        push_copy(alloc, &mut lines, dump.line.as_slice())?;
     }
-    Err(DumpFault::ReadFailed)
+    Ok(lines)
 }
 
 // Appends a copy of the line.

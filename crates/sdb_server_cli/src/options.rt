@@ -18,6 +18,12 @@ const LOOPS_HELP: &str =
 
 const CLIENTS_HELP: &str = "With --listen, serve at most N clients at once; the default is 64";
 
+const MEMORY_HELP: &str =
+    "With --listen, store no operations while the server has more than N MiB of memory";
+
+// The maximum of `--memory`, 16 TiB.
+const MEMORY_LIMIT: u64 = 16_777_216;
+
 const DUMP_HELP: &str =
     "With --until-eof, write a dump of all logs at exit; with --store alone, that of the file";
 
@@ -38,7 +44,7 @@ const NO_DUMP: &str = "error: --dump of a store takes no --listen";
 
 fn command<'a>(alloc: Global) -> Result<Command<'a>, AllocError> {
     let command = Command::new(alloc, "sdb_server")
-        .about("A ShareDB server for JSON documents")
+        .about("Navirotsohy, a ShareDB server for JSON documents")
         .version(VERSION)
         .arg(lines_option(alloc)?)?
         .arg(listen_option(alloc))?;
@@ -66,8 +72,9 @@ fn with_serving_options<'a>(
     let proxy = proxy_option(alloc)?;
     let loops = number_option(alloc, "loops", LOOPS_HELP, LOOP_LIMIT as u64)?;
     let clients = number_option(alloc, "clients", CLIENTS_HELP, LOOP_CLIENT_LIMIT as u64)?;
+    let memory = number_option(alloc, "memory", MEMORY_HELP, MEMORY_LIMIT)?;
     let command = command.arg(log)?.arg(proxy)?;
-    command.arg(loops)?.arg(clients)
+    command.arg(loops)?.arg(clients)?.arg(memory)
 }
 
 // Adds the options of a store.
@@ -308,6 +315,7 @@ fn parse_job(matches: &ArgMatches<'_>) -> Result<RunMode, &'static str> {
         options: ServeOptions {
             loops: parse_number(matches, "loops"),
             clients: parse_number(matches, "clients"),
+            memory: parse_number(matches, "memory"),
             is_logging: matches.get_flag("log"),
             is_proxied: matches.get_flag("proxy"),
         },

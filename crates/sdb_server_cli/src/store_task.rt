@@ -69,7 +69,7 @@ where
         eprintln!(&rt; "store: --load needs a new file")?;
         return Ok(Err(STATUS_FAULT));
     }
-    match read_dump(rt, rt.reader()) {
+    match read_dump(rt.alloc(), rt.reader()) {
         Ok(dump) => Ok(Ok(StoreJob::Load(dump))),
         Err(fault) => {
             eprintln!(&rt; "load: {fault}")?;

@@ -7,4 +7,5 @@ returns g c = λ h is.
     let logged = subst (λ b. IsHostOfBackend h b) (sym c.with_log-logging.ensures) (c.in_ok-state.ensures h is) in
     let proxied = subst (λ b. IsHostOfBackend h b) (sym c.with_proxy-proxied.ensures) logged in
     let limited = subst (λ b. IsHostOfBackend h b) (sym c.with_session_limit-limited.ensures) proxied in
-    subst (λ b. IsHostOfBackend h b) (sym c.with_passes_kept.ensures) limited
+    let bounded = subst (λ b. IsHostOfBackend h b) (sym c.with_memory_limit-bounded.ensures) limited in
+    subst (λ b. IsHostOfBackend h b) (sym c.with_passes_kept.ensures) bounded
