@@ -1,6 +1,6 @@
 //! Tests of the public functions of the libraries up to `sdb_oplog`, of the snapshot cache, queues,
-//! lines, the lock and command lines, one module for each library. `growths` tests allocation
-//! failures. They are a separate crate so that no library is proved again for its tests.
+//! lines, the lock and command lines, one module for each library. `failed_allocations` tests
+//! allocation failures. They are a separate crate so that no library is proved again for its tests.
 #![tactic(auto)]
 
 #[cfg(test)]
@@ -14,9 +14,9 @@ mod component;
 #[cfg(test)]
 mod convergence;
 #[cfg(test)]
-mod growlock;
+mod failed_allocations;
 #[cfg(test)]
-mod growths;
+mod growlock;
 #[cfg(test)]
 mod helpers;
 #[cfg(test)]

@@ -335,7 +335,7 @@ fn help_and_the_version_are_printed(rt: HostRuntime) {
     }
     let (status, out, err) = run_without_job(&rt, rt.alloc(), "sdb_server --version");
     assert!(rt;
-        status == Some(STATUS_OK) && err.is_empty() && out.as_str() == "sdb_server 1.0.0\n"
+        status == Some(STATUS_OK) && err.is_empty() && out.as_str() == "sdb_server 0.1.0\n"
     );
 }
 
@@ -348,6 +348,7 @@ fn a_server_ends_at_the_end_of_its_input(rt: HostRuntime) {
     let options = ServeOptions {
         loops: None,
         clients: None,
+        memory: None,
         is_logging: false,
         is_proxied: false,
     };
@@ -369,6 +370,7 @@ fn a_server_ends_after_its_number_of_sessions(rt: HostRuntime) {
     let options = ServeOptions {
         loops: Some(1),
         clients: None,
+        memory: None,
         is_logging: true,
         is_proxied: true,
     };

@@ -287,14 +287,15 @@ pub(crate) fn expect_upgrade_required(
     let parts = answer.as_str().split_once("\r\n\r\n");
     let (head, body) = parts.expect(abort, "the end of the head");
     let length = format!(in alloc; "Content-Length: {}", body.len()).expect(abort, "out of memory");
-    let is_explained = body.starts_with("This is a ShareDB server.") && body.ends_with('\n');
+    let is_explained = body.starts_with("This is Navirotsohy, a ShareDB server.")
+        && body.ends_with('\n');
     let is_refused = head.lines().next() == Some("HTTP/1.1 426 Upgrade Required");
     let is_named = head.contains("\r\nUpgrade: websocket\r\n");
     assert!(abort; is_explained && is_refused && is_named && head.contains(length.as_str()));
 }
 
 // The body of `/health` for one client and two stored operations, up to the number of seconds.
-const HEALTH: &str = r#"{"version":"1.0.0","clients":1,"documents":1,"entries":2,"uptime":"#;
+const HEALTH: &str = r#"{"version":"0.1.0","clients":1,"documents":1,"entries":2,"uptime":"#;
 
 // Lines of `/metrics` in this state.
 const METRICS: [&str; 3] = [

@@ -2,7 +2,10 @@
 ghost use Rattle.std.specs.Prelude.{◌≡◌};
 ghost use Rattle.sdb_backend.specs.PassModel.{pass_number, IsHostOfBackend, IsPassOfBackend};
 
-use crate::helpers::{counter_of, create_counter, increment, key, stored_version, submission};
+use crate::desk::{long_edit, repeated};
+use crate::helpers::{
+    content, counter_of, create_counter, increment, key, stored_version, submission,
+};
 use crate::submit::TryRecorder;
 use sdb_backend::{
     Audit, Backend, CloseError, CloseRefused, Counts, Host, Pass, submit_is_atomic, take_is_fifo,
@@ -207,6 +210,77 @@ fn many_entries_are_copied_in_parts(rt: HostRuntime) {
             && old == Some(18_999)
             && fetch_at_moment(&rt, &backend, &mut pass, &key, moment) == (18_000, Some(17_999))
     );
+}
+
+// Returns the reply to a content that is sent at a version.
+fn reply_to<R: Wait + Drop>(
+    rt: &impl Abort,
+    alloc: Global,
+    backend: &Backend<R>,
+    pass: &mut Pass,
+    key: &Key,
+    seq: u64,
+    sent: (Option<u64>, Content),
+) -> Reply
+    requires { IsPassOfBackend pass.old backend.now }
+    ensures { IsPassOfBackend pass.new backend.now }
+{
+    let (version, content) = sent;
+    let submission = submission_of_pass(rt, alloc, pass, seq, version, content);
+    let now = Moment::zero();
+    submit(alloc, backend, pass, key, submission, now, &NoGate)
+}
+
+// A duplicate is acknowledged, and the document can be read.
+#[test]
+fn a_full_backend_stores_nothing(rt: HostRuntime) {
+    let alloc = rt.alloc();
+    let TestBackend {
+        backend,
+        first: mut pass,
+        ..
+    } = open_backend(&rt, alloc, rt);
+    let key = key(&rt, alloc, "1");
+    create(&rt, alloc, &backend, &mut pass, &key);
+    backend.set_full(true);
+    let created = (None, create_counter(&rt, alloc));
+    let again = reply_to(&rt, alloc, &backend, &mut pass, &key, 1, created);
+    let edit = (None, increment(&rt, alloc, 1));
+    let refused = reply_to(&rt, alloc, &backend, &mut pass, &key, 2, edit);
+    let counter = fetch_counter(&rt, &backend, &mut pass, &key);
+    assert!(rt; backend.is_full() && matches!(again, Reply::Repeat { v: 0 }));
+    assert!(rt; matches!(refused, Reply::Refused(Code::E10)) && counter == Some(0));
+    backend.set_full(false);
+    add_at(&rt, alloc, &backend, &mut pass, &key, 2, 0);
+    assert!(rt; fetch_counter(&rt, &backend, &mut pass, &key) == Some(1));
+}
+
+// Each insert splits the deletion of 6,000 units once more, so 24 edits of 256 inserts are above
+// 16,777,216 pairs. A smaller deletion is stored.
+#[test]
+fn a_rebase_of_too_many_pairs_is_refused(rt: HostRuntime) {
+    let alloc = rt.alloc();
+    let TestBackend {
+        backend,
+        first: mut pass,
+        ..
+    } = open_backend(&rt, alloc, rt);
+    let key = key(&rt, alloc, "1");
+    let create = (r#"{"create":{"type":"json0","data":""#, "a", r#""}}"#);
+    let created = content(&rt, alloc, repeated(&rt, alloc, create, 6_000).as_str());
+    store(&rt, alloc, &backend, &mut pass, &key, 1, created);
+    let first = r#"{"op":[{"p":[100],"si":"b"}"#;
+    for seq in 2..=25 {
+        let inserts = long_edit(&rt, alloc, first, r#",{"p":[100],"si":"b"}"#, 255);
+        store(&rt, alloc, &backend, &mut pass, &key, seq, inserts);
+    }
+    let delete = (r#"{"op":[{"p":[0],"sd":""#, "a", r#""}]}"#);
+    let long = content(&rt, alloc, repeated(&rt, alloc, delete, 6_000).as_str());
+    let long = reply_to(&rt, alloc, &backend, &mut pass, &key, 26, (Some(1), long));
+    let short = content(&rt, alloc, repeated(&rt, alloc, delete, 50).as_str());
+    let short = reply_to(&rt, alloc, &backend, &mut pass, &key, 26, (Some(1), short));
+    assert!(rt; matches!(long, Reply::Refused(Code::E10)));
+    assert!(rt; stored_version(&short) == Some((25, 24)));
 }
 
 // Submits this content at the current version, at a moment with the seq as milliseconds.

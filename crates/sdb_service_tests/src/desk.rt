@@ -111,6 +111,12 @@ impl TestDocument {
         self.shard.commit_last(&self.key, work, Moment::zero())
     }
 
+    // Returns the reply of a bounded commit of a submission.
+    fn commit_short(&mut self, submission: &Submission) -> Reply {
+        self.shard
+            .commit_short(&self.key, submission, Moment::zero())
+    }
+
     fn commit_newer(&mut self, work: Work) -> Reply
         requires { IsSeen (plain_key self.old.key) self.old.shard work }
     {
@@ -177,7 +183,7 @@ fn a_work_made_by_its_caller_is_committed(rt: HostRuntime) {
 }
 
 // Returns the texts, `middle` as often as this, as one.
-fn repeated(
+pub(crate) fn repeated(
     rt: &impl Abort,
     alloc: Global,
     (first, middle, last): (&str, &str, &str),
@@ -192,7 +198,13 @@ fn repeated(
 }
 
 // Returns an edit with this component, and with the other one as often as this.
-fn long_edit(rt: &impl Abort, alloc: Global, first: &str, other: &str, count: usize) -> Content {
+pub(crate) fn long_edit(
+    rt: &impl Abort,
+    alloc: Global,
+    first: &str,
+    other: &str,
+    count: usize,
+) -> Content {
     let parts = (first, other, "]}");
     content(rt, alloc, repeated(rt, alloc, parts, count).as_str())
 }
@@ -227,6 +239,23 @@ fn the_last_commit_transforms_at_most_16384_pairs(rt: HostRuntime) {
         let create = content(&rt, alloc, r#"{"create":{"type":"json0","data":0}}"#);
         let edit = additions(&rt, alloc, 127);
         let reply = reply_after(&rt, alloc, create, edit, additions(&rt, alloc, count));
+        assert!(rt; stored_version(&reply) == version, "{count}");
+        assert!(rt; version.is_some() || matches!(reply, Reply::Refused(Code::E10)));
+    }
+}
+
+#[test]
+fn a_bounded_commit_transforms_at_most_16384_pairs(rt: HostRuntime) {
+    let alloc = rt.alloc();
+    for (count, version) in [(127, Some((2, 1))), (128, None)] {
+        let mut document = TestDocument::empty(&rt, alloc);
+        let create = content(&rt, alloc, r#"{"create":{"type":"json0","data":0}}"#);
+        document.store(&rt, submission(&rt, alloc, "w", 1, None, create, 0));
+        let newer = additions(&rt, alloc, count);
+        document.store(&rt, submission(&rt, alloc, "x", 1, None, newer, 0));
+        let late = additions(&rt, alloc, 127);
+        let late = submission(&rt, alloc, "y", 1, Some(1), late, 0);
+        let reply = document.commit_short(&late);
         assert!(rt; stored_version(&reply) == version, "{count}");
         assert!(rt; version.is_some() || matches!(reply, Reply::Refused(Code::E10)));
     }

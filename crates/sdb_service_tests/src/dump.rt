@@ -20,7 +20,11 @@ pub(crate) const CREATED: &str = r#"{"dump":2}
 {"entries":1}
 "#;
 
-const WITHOUT_MOMENT: &str = r#"{"dump":1}
+const OTHER_HEADER: &str = r#"{"dump":1}
+{"entries":0}
+"#;
+
+const WITHOUT_MOMENT: &str = r#"{"dump":2}
 {"arrived":{"create":{"data":{"n":0},"type":"http://sharejs.org/types/JSONv0"},"v":null},"by":0,"c":"b","create":{"data":{"n":0},"type":"http://sharejs.org/types/JSONv0"},"d":"1","seq":1,"src":"w","v":0,"via":"b"}
 {"entries":1}
 "#;
@@ -224,7 +228,8 @@ fn dumps_are_accepted_or_refused_at_a_line(rt: HostRuntime) {
     for (dump, expected) in [
         (EMPTY, Ok((0, 0))),
         (CREATED, Ok((1, 1))),
-        (WITHOUT_MOMENT, Ok((1, 1))),
+        (OTHER_HEADER, Err(DumpFault::WrongLine { line: 1 })),
+        (WITHOUT_MOMENT, Err(DumpFault::WrongLine { line: 2 })),
         (OTHER_VERSION, Err(DumpFault::WrongLine { line: 2 })),
         (WITHOUT_COUNT, Err(DumpFault::WrongLine { line: 3 })),
         (TWO_DOCUMENTS, Ok((2, 3))),

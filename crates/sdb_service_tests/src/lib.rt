@@ -11,7 +11,7 @@ mod dump;
 #[cfg(test)]
 mod dump_streams;
 #[cfg(test)]
-mod growths;
+mod failed_allocations;
 #[cfg(test)]
 mod helpers;
 #[cfg(test)]

@@ -5,7 +5,7 @@ use Rattle.sdb_desk.specs.ReplyView.{plain_reply}
 use Rattle.sdb_desk.specs.ShardView.{logs_of}
 use Rattle.sdb_desk.specs.declared.document.Reply.{Reply}
 use Rattle.sdb_service_tests.proofs.Looks.{committed_stays}
-use Rattle.sdb_service_tests.proofs.growths.commit.Goals as goal
+use Rattle.sdb_service_tests.proofs.failed_allocations.commit.Goals as goal
 
 pub returns-in-Decided-Repeat : goal.returns-in-Decided-Repeat
 returns-in-Decided-Repeat c =

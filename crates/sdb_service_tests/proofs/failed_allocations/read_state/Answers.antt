@@ -2,7 +2,7 @@ use Rattle.std.proofs.Common.{ap}
 use Rattle.sdb_oplog.specs.Keys.{plain_key}
 use Rattle.sdb_desk.specs.ShardView.{logs_of}
 use Rattle.sdb_service_tests.proofs.Looks.{same_stays}
-use Rattle.sdb_service_tests.proofs.growths.read_state.Goals as goal
+use Rattle.sdb_service_tests.proofs.failed_allocations.read_state.Goals as goal
 
 pub returns : goal.returns
 returns g c =

@@ -1,5 +1,5 @@
 //! Tests of calls in which an allocation fails: the state is unchanged, and a retry succeeds. Run
-//! directly, no allocation fails; `tests/growths.py` fails each allocation of each test in turn.
+//! directly, no allocation fails; `tests/failed_allocations.py` fails each allocation of each test in turn.
 ghost use Rattle.std.specs.Prelude.{IfNone};
 ghost use Rattle.sdb_oplog.specs.Keys.{plain_key};
 ghost use Rattle.sdb_service_tests.specs.Seen.{IsSeen, StaySeen};

@@ -1,5 +1,5 @@
 //! Tests of calls in which an allocation fails: the state afterwards, and a retry. Run directly, no
-//! allocation fails; `tests/growths.py` fails each allocation of each test in turn.
+//! allocation fails; `tests/failed_allocations.py` fails each allocation of each test in turn.
 use crate::chunks::{Number, freeze_list, list_of_numbers};
 use crate::helpers::{json, json_prints_as, op, op_prints_as, with_repeated};
 use crate::sorted_map::{clone_frozen_map, freeze_map};
