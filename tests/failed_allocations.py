@@ -1,8 +1,8 @@
-"""Fails each allocation of the calls of a table in turn, and checks the result: python3 tests/growths.py
+"""Fails each allocation of the calls of a table in turn, and checks the result: python3 tests/failed_allocations.py
 
-It uses what `rt ci` or `rt test` and `rt run` have built: runs of the two programs, and the tests of the modules growths of
-sdb_model_tests and sdb_service_tests. A line for each call says how many allocations failed, how many of them inside the call,
-and how many runs went wrong. The status is 1 if one did, or if no allocation is inside a call.
+It uses what `rt ci` or `rt test` and `rt run` have built: runs of the two programs, and the tests of the modules
+failed_allocations of sdb_model_tests and sdb_service_tests. A line for each call says how many allocations failed, how many of
+them inside the call, and how many runs went wrong. The status is 1 if one did, or if no allocation is inside a call.
 
 A run of a program is inside its call from end to end. If an allocation of a request or a step fails, it is answered E10 and
 the others as if it had not been sent, and the status is 0; so a failed commit counts as no try. If a line can't be held or its
@@ -29,8 +29,8 @@ OUT_OF_MEMORY = (b"ERR_OUT_OF_MEMORY", b'{"error":"E10"}')
 AROUND = ("out of memory", "OutOfMemory", "AllocError", "AllocFailed")
 
 
-def lines_of(script, count):
-    command = [sys.executable, os.path.join(HERE, "..", "bench", script), str(count)]
+def lines_of(kind, count):
+    command = [sys.executable, os.path.join(HERE, "..", "bench", "generate.py"), kind, str(count)]
     return subprocess.run(command, stdout=subprocess.PIPE, check=True).stdout
 
 
@@ -92,8 +92,8 @@ def ninth():
 class FailingRuns:
     """Runs of programs with one failed allocation."""
 
-    def __init__(self, room):
-        self.library, self.counted = os.path.join(room, "fail_nth.so"), os.path.join(room, "counts")
+    def __init__(self, folder):
+        self.library, self.counted = os.path.join(folder, "fail_nth.so"), os.path.join(folder, "counts")
         made = ["cc", "-shared", "-fPIC", "-O1", "-o", self.library, os.path.join(HERE, "fail_nth.c"), "-ldl"]
         subprocess.run(made, check=True)
 
@@ -107,12 +107,12 @@ class FailingRuns:
             return struct.unpack("3Q", file.read(24))
 
 
-def is_right(ended, whole, without_one, refusals):
+def is_right(ended, whole, without_one, refused):
     status, written = ended.returncode, ended.stdout
     if status == 0:
         lines = written.splitlines(keepends=True)
         others = [line for line in lines if not any(code in line for code in OUT_OF_MEMORY)]
-        return written == whole or (refusals == len(lines) - len(others) > 0 and b"".join(others) in without_one)
+        return written == whole or (refused == len(lines) - len(others) > 0 and b"".join(others) in without_one)
     prefix = written[: -len(FAULT)] if written.endswith(FAULT) else written
     is_ended = written.endswith(FAULT) or written == b""
     return status == 1 and is_ended and whole.startswith(prefix) and prefix[-1:] in (b"", b"\n")
@@ -124,34 +124,34 @@ def report(name, count, inside, wrong):
     return not wrong and inside > 0
 
 
-def program_is_right(refusals, name, program, given, refusal_answers=1):
-    whole = refusals.run(program, given)
+def program_is_right(failing_runs, name, program, given, refusal_answers=1):
+    whole = failing_runs.run(program, given)
     assert whole.returncode == 0, name
-    count = refusals.counts()[0]
+    count = failing_runs.counts()[0]
     lines = given.splitlines(keepends=True)
     # the answers to the input without one of its lines, for each line
-    without_one = {refusals.run(program, b"".join(lines[:at] + lines[at + 1 :])).stdout for at in range(len(lines))}
-    runs = ((nth, refusals.run(program, given, nth)) for nth in range(1, count + 1))
+    without_one = {failing_runs.run(program, b"".join(lines[:at] + lines[at + 1 :])).stdout for at in range(len(lines))}
+    runs = ((nth, failing_runs.run(program, given, nth)) for nth in range(1, count + 1))
     wrong = [nth for nth, run in runs if not is_right(run, whole.stdout, without_one, refusal_answers)]
     return report(name, count, count, wrong)
 
 
-def test_is_right(refusals, program, test):
-    assert refusals.run([program, test]).returncode == 0, test
-    count, inside, _ = refusals.counts()
-    wrong = [nth for nth in range(1, count + 1) if not test_ends_well(refusals, program, test, nth)]
+def test_is_right(failing_runs, program, test):
+    assert failing_runs.run([program, test]).returncode == 0, test
+    count, inside, _ = failing_runs.counts()
+    wrong = [nth for nth in range(1, count + 1) if not test_ends_well(failing_runs, program, test, nth)]
     return report(test, count, inside, wrong)
 
 
-def test_ends_well(refusals, program, test, nth):
-    ended = refusals.run([program, test], nth=nth)
-    output, is_inside = ended.stderr.decode(), refusals.counts()[2] > 0
+def test_ends_well(failing_runs, program, test, nth):
+    ended = failing_runs.run([program, test], nth=nth)
+    output, is_inside = ended.stderr.decode(), failing_runs.counts()[2] > 0
     return ended.returncode == 0 or (not is_inside and "assertion" not in output and any(word in output for word in AROUND))
 
 
 def tests_of(program):
     listed = subprocess.run([program, "--list"], stdout=subprocess.PIPE, text=True, check=True).stdout
-    return [line.split(": test")[0] for line in listed.splitlines() if line.startswith("growths::")]
+    return [line.split(": test")[0] for line in listed.splitlines() if line.startswith("failed_allocations::")]
 
 
 def dump_of(steps):
@@ -161,8 +161,8 @@ def dump_of(steps):
 def main():
     runs = [
         ("run_lines, a create and a fetch", SERVER, STORED),
-        ("run_lines, 40 lines on new documents", SERVER, lines_of("lines.py", 40)),
-        ("run_lines, 40 inserts into one text", SERVER, lines_of("trace.py", 40)),
+        ("run_lines, 40 lines on new documents", SERVER, lines_of("lines", 40)),
+        ("run_lines, 40 inserts into one text", SERVER, lines_of("trace", 40)),
         ("run_lines, a session", SERVER, SESSION),
         ("run_steps, interleaved steps", STEPS, INTERLEAVED),
         ("run_steps, nine commits of one edit", STEPS, ninth()),
@@ -170,10 +170,10 @@ def main():
         ("run_dump, interleaved steps", [*STEPS, "--dump"], INTERLEAVED, 0),
         ("check_dump, their dump", [*STEPS, "--check"], dump_of(INTERLEAVED)),
     ]
-    with tempfile.TemporaryDirectory() as room:
-        refusals = FailingRuns(room)
-        right = [program_is_right(refusals, *each) for each in runs]
-        right += [test_is_right(refusals, program, test) for program in TESTS for test in tests_of(program)]
+    with tempfile.TemporaryDirectory() as folder:
+        failing_runs = FailingRuns(folder)
+        right = [program_is_right(failing_runs, *each) for each in runs]
+        right += [test_is_right(failing_runs, program, test) for program in TESTS for test in tests_of(program)]
     return 0 if all(right) else 1
 
 
