@@ -26,15 +26,19 @@ var Navirotsohy = (() => {
     Doc: () => Doc,
     Emitter: () => Emitter,
     Refusal: () => Refusal,
+    UndoManager: () => UndoManager,
     apply: () => apply,
+    bindText: () => bindText,
     bucketOf: () => bucketOf,
     complete: () => complete,
     compose: () => compose,
     cross: () => cross,
+    difference: () => difference,
     invert: () => invert,
     textChange: () => textChange,
     transformComponent: () => transformComponent,
-    transformOffset: () => transformOffset
+    transformOffset: () => transformOffset,
+    transformPosition: () => transformPosition
   });
 
   // src/emitter.js
@@ -151,6 +155,27 @@ var Navirotsohy = (() => {
     }
   }
 
+  // src/observers.js
+  function observe(doc, observer) {
+    const { observers } = doc._doc();
+    observers.add(observer);
+    return () => observers.delete(observer);
+  }
+  function callObservers(observers, changes) {
+    for (const change of changes) {
+      for (const observer of [...observers]) {
+        try {
+          observer(change);
+        } catch (error) {
+          report(error);
+        }
+      }
+    }
+  }
+  function submitAtOnce(doc, operation, source) {
+    return doc._doc().submitAtOnce(operation, source);
+  }
+
   // src/errors.js
   var MESSAGES = {
     ERR_MESSAGE_BADLY_FORMED: "message is badly formed",
@@ -214,6 +239,7 @@ var Navirotsohy = (() => {
   var DEEPEST = 50;
   var MOST_COMPOSED = 64;
   var LONGEST_COMPOSED = 65536;
+  var MOST_DIFFERENCES = 500;
   function bytesOf(text) {
     return new TextEncoder().encode(text).length;
   }
@@ -340,12 +366,11 @@ var Navirotsohy = (() => {
     const read = (key) => [key, readData(value[key], `${place}.${key}`, room - 1)];
     return Object.fromEntries(Object.keys(value).map(read));
   }
-  function readOperation(operation) {
+  function readOperation(operation, most = MOST_COMPONENTS) {
     if (!Array.isArray(operation))
       return badlyFormed(`${spelled(operation)} is no list of components`);
-    if (operation.length > MOST_COMPONENTS) {
-      badlyFormed(`${operation.length} components, at most ${MOST_COMPONENTS}`);
-    }
+    if (operation.length > most)
+      badlyFormed(`${operation.length} components, at most ${most}`);
     const read = (
       /** @type {any[]} */
       Array.from(operation, readComponent)
@@ -554,68 +579,6 @@ var Navirotsohy = (() => {
     return plain(overlaid(data, operation));
   }
 
-  // src/ot/invert.js
-  function removable(value) {
-    const removed = plain(value);
-    return isShallow(removed) ? removed : null;
-  }
-  function completeComponent(data, component, shape) {
-    const depth = containerDepth(component, shape);
-    const place = valueAt(data, component.p, depth);
-    const last = component.p[depth];
-    if (shape === "ld" || shape === "lr") {
-      return Array.isArray(place) && has(place, last) ? { ...component, ld: removable(place[last]) } : component;
-    }
-    if (!KEYED.has(shape) || !isObject(place))
-      return component;
-    const { p, oi } = component;
-    if (!hasMember(place, last))
-      return shape === "od" ? null : { p, oi };
-    const od = removable(memberOf(place, last));
-    return shape === "od" ? { p, od } : { p, od, oi };
-  }
-  function completeOverlaid(data, operation) {
-    const completed = [];
-    let present = data;
-    for (const component of operation) {
-      const one = completeComponent(present, component, shapeOf(component));
-      if (one !== null) {
-        present = applyComponent(present, one);
-        completed.push(one);
-      }
-    }
-    return { operation: completed, data: present };
-  }
-  function complete(data, operation) {
-    const completed = completeOverlaid(data, operation);
-    return { operation: completed.operation, data: plain(completed.data) };
-  }
-  var INVERSES = {
-    na: ({ p, na }) => ({ p, na: 0 - na }),
-    si: ({ p, si }) => ({ p, sd: si }),
-    sd: ({ p, sd }) => ({ p, si: sd }),
-    li: ({ p, li }) => ({ p, ld: li }),
-    ld: ({ p }, old) => ({ p, li: old }),
-    lr: ({ p, li }, old) => ({ p, ld: li, li: old }),
-    oi: ({ p, oi }) => ({ p, od: oi }),
-    od: ({ p }, old) => ({ p, oi: old }),
-    or: ({ p, oi }, old) => ({ p, od: oi, oi: old })
-  };
-  function invert(operation, before) {
-    const inverse = [];
-    let present = before;
-    for (const component of operation) {
-      const one = completeComponent(present, component, shapeOf(component));
-      if (one !== null) {
-        const next = applyComponent(present, one);
-        const shape = shapeOf(one);
-        inverse.push(INVERSES[shape](one, shape === "na" ? void 0 : plain(valueAt(present, one.p, one.p.length))));
-        present = next;
-      }
-    }
-    return inverse.reverse();
-  }
-
   // src/ot/transform.js
   function shareFront(path, other, length) {
     for (let depth = 0; depth < length; depth += 1)
@@ -785,48 +748,6 @@ var Navirotsohy = (() => {
     return { left: rest, right: crossed };
   }
 
-  // src/content.js
-  function applyContent(data, content) {
-    if (content.del)
-      return void 0;
-    if (content.create)
-      return data === void 0 ? content.create.data : refuse("ERR_DOC_ALREADY_CREATED");
-    return data === void 0 ? refuse("ERR_DOC_DOES_NOT_EXIST") : overlaid(
-      data,
-      /** @type {Operation} */
-      content.op
-    );
-  }
-  function crossContents(own, stored) {
-    if (stored.create)
-      return refuse("ERR_DOC_ALREADY_CREATED");
-    if (own.del)
-      return { own, stored: null };
-    if (stored.del)
-      return refuse("ERR_DOC_WAS_DELETED");
-    if (own.create)
-      return refuse("ERR_DOC_ALREADY_CREATED");
-    const crossed = cross(
-      /** @type {Operation} */
-      own.op,
-      /** @type {Operation} */
-      stored.op
-    );
-    return { own: { op: crossed.left }, stored: { op: crossed.right } };
-  }
-  function isComplete(data, { op }) {
-    if (!op || data === void 0)
-      return true;
-    const completed = completeOverlaid(data, op).operation;
-    return completed.length === op.length && completed.every((one, at) => shapeOf(one) === shapeOf(op[at]));
-  }
-  function lengthOf(operation) {
-    return JSON.stringify(operation).length;
-  }
-  function isComposable(components, length) {
-    return components <= MOST_COMPOSED && length <= LONGEST_COMPOSED;
-  }
-
   // src/ot/compose.js
   function mergeNumbers(last, next) {
     const sum = last.na + next.na;
@@ -870,6 +791,481 @@ var Navirotsohy = (() => {
       composed.push(...merged2);
     }
     return composed;
+  }
+
+  // src/ot/text.js
+  var MOVING = /* @__PURE__ */ new Set(["li", "ld"]);
+  function commonFront(before, after, most) {
+    let length = 0;
+    while (length < most && before[length] === after[length])
+      length += 1;
+    return isHighHalf(before.charCodeAt(length - 1)) ? length - 1 : length;
+  }
+  function commonEnd(before, after, most) {
+    let length = 0;
+    while (length < most && before[before.length - 1 - length] === after[after.length - 1 - length])
+      length += 1;
+    return isLowHalf(before.charCodeAt(before.length - length)) ? length - 1 : length;
+  }
+  function textChange(path, before, after, caret = 0) {
+    const shorter = Math.min(before.length, after.length);
+    const afterCaret = commonEnd(before, after, Math.min(shorter, after.length - caret));
+    const front = commonFront(before, after, shorter - afterCaret);
+    const end = commonEnd(before, after, shorter - front);
+    const at = [...path, front];
+    const removed = before.slice(front, before.length - end);
+    const inserted = after.slice(front, after.length - end);
+    return [
+      ...removed === "" ? [] : [{ p: at, sd: removed }],
+      ...inserted === "" ? [] : [{ p: at, si: inserted }]
+    ];
+  }
+  function caretAfter(p, operation, side) {
+    let carets = [{ p, si: "" }];
+    for (const component of operation) {
+      carets = carets.flatMap((caret) => transformComponent(caret, component, side));
+    }
+    return carets.length === 0 ? null : carets[0].p;
+  }
+  function transformPosition(position, operation, path, side) {
+    const after = caretAfter([...path, position], operation, side);
+    return after === null ? 0 : (
+      /** @type {number} */
+      after[after.length - 1]
+    );
+  }
+  function transformOffset(offset, operation, path) {
+    return transformPosition(offset, operation, path, LEFT);
+  }
+  function transformPath(path, operation) {
+    const moving = operation.filter((component) => MOVING.has(shapeOf(component)));
+    const after = caretAfter([...path, 0], moving, LEFT);
+    return after === null ? null : after.slice(0, -1);
+  }
+  function componentsFor(path, operation) {
+    let present = path;
+    return operation.filter((component) => {
+      const depth = containerDepth(component, shapeOf(component));
+      const isFor = present !== null && depth <= present.length && shareFront(present, component.p, depth);
+      present = present && transformPath(present, [component]);
+      return isFor;
+    });
+  }
+  function endOf(operation, path) {
+    const isOfText = ({ p: p2, si: si2, sd }) => (si2 || sd) && p2.length === path.length + 1 && shareFront(p2, path, path.length);
+    const changes = operation.filter(isOfText);
+    if (changes.length === 0)
+      return null;
+    const { p, si = "" } = (
+      /** @type {any} */
+      changes[changes.length - 1]
+    );
+    return p[path.length] + si.length;
+  }
+
+  // src/bind_text.js
+  function bindText(field, doc, path, options = {}) {
+    const bound = new BoundField(field, doc, path, options);
+    return { unbind: () => bound.unbind() };
+  }
+  var BoundField = class {
+    /**
+     * @param {Field} field
+     * @param {any} doc
+     * @param {Path} path
+     * @param {TextBindingOptions} options
+     */
+    constructor(field, doc, path, { undo, refused = report }) {
+      this.field = field;
+      this.doc = doc;
+      this.path = path.slice();
+      this.manager = undo;
+      this.refused = refused;
+      this.composition = null;
+      this.stops = [observe(doc, (change) => this.receive(change))];
+      this.listen("input", () => this.composition === null && this.send());
+      this.listen("compositionstart", () => this.beginComposition());
+      this.listen("compositionend", () => this.send());
+      this.listen("keydown", (event) => this.press(event));
+      this.listen("beforeinput", (event) => this.move(event, { historyUndo: "undo", historyRedo: "redo" }[event.inputType]));
+      this.show(null, this.path);
+    }
+    listen(event, listener) {
+      this.field.addEventListener(event, listener);
+      this.stops.push(() => this.field.removeEventListener(event, listener));
+    }
+    unbind() {
+      if (this.composition !== null)
+        this.send();
+      for (const stop of this.stops.splice(0))
+        stop();
+    }
+    get text() {
+      const text = this.path === null ? void 0 : this.doc.valueAt(this.path);
+      return typeof text === "string" ? text : void 0;
+    }
+    // The document -------------------------------------------------------------------------------------------------
+    receive({ operation, source }) {
+      if (source === this || this.path === null)
+        return;
+      const { path } = this;
+      if (operation !== null)
+        this.path = transformPath(path, operation);
+      if (this.composition !== null)
+        this.miss(operation, path);
+      else
+        this.show(operation, path, source === this.manager);
+    }
+    miss(operation, path) {
+      const { composition, text } = this;
+      if (operation !== null) {
+        composition.missed = compose(composition.missed, componentsFor(path, operation));
+      } else if (text !== void 0) {
+        Object.assign(composition, { path, missed: textChange(path, composition.text, text) });
+      }
+    }
+    // Shows the text after an operation on the text at the path. The caret stays between its two letters, or is set after
+    // what was undone.
+    show(operation, path, isUndone = false) {
+      const { field, text } = this;
+      if (text === void 0 || field.value === text)
+        return;
+      const { selectionStart, selectionEnd, selectionDirection, scrollTop } = field;
+      const change = operation || textChange(path, field.value, text);
+      const end = isUndone ? endOf(change, path) : null;
+      const moved = (offset) => end === null ? transformPosition(offset, change, path, LEFT) : end;
+      field.value = text;
+      if (selectionStart !== null) {
+        field.setSelectionRange(moved(selectionStart), moved(selectionEnd), selectionDirection || void 0);
+      }
+      field.scrollTop = scrollTop;
+    }
+    // The field ----------------------------------------------------------------------------------------------------
+    // (a field shows other line breaks than the text may have)
+    beginComposition() {
+      const { field, path, text = field.value } = this;
+      this.composition = { path, text, missed: [] };
+    }
+    // Sends what the user has changed. If it is refused, the field shows the document's text again.
+    send() {
+      const { field, doc, composition, text: present } = this;
+      this.composition = null;
+      if (present === void 0)
+        return;
+      const { path, text, missed } = composition || { path: this.path, text: present, missed: [] };
+      try {
+        const own = textChange(path, text, field.value, field.selectionStart || 0);
+        const { left, right } = cross(own, missed);
+        submitAtOnce(doc, left, this).catch((error) => this.refuse(error));
+        this.show(right, path);
+      } catch (error) {
+        this.refuse(error);
+      }
+    }
+    refuse(error) {
+      if (this.stops.length > 0 && this.composition === null)
+        this.show(null, this.path);
+      this.refused(error);
+    }
+    press(event) {
+      const { key, altKey, ctrlKey, metaKey, shiftKey } = event;
+      if (altKey || !(ctrlKey || metaKey))
+        return;
+      const moves = shiftKey ? { z: "redo" } : { z: "undo", y: ctrlKey ? "redo" : void 0 };
+      this.move(event, moves[key.toLowerCase()]);
+    }
+    // Undoes or redoes in place of the browser, whose own steps end when a program sets the field's value.
+    move(event, name) {
+      if (this.manager === void 0 || name === void 0)
+        return;
+      event.preventDefault();
+      if (this.composition === null)
+        this.manager[name]().catch((error) => this.refuse(error));
+    }
+  };
+
+  // src/difference.js
+  function difference(path, before, after, origins = /* @__PURE__ */ new Map()) {
+    const context = { operation: [], origins };
+    compare(context, path, before, after);
+    return context.operation;
+  }
+  function kindOf(value) {
+    if (typeof value === "string")
+      return "text";
+    if (Array.isArray(value))
+      return "list";
+    return isObject(value) ? "object" : "other";
+  }
+  var COMPARISONS = {
+    text: ({ operation }, path, before, after) => operation.push(...textChange(path, before, after, after.length)),
+    list: compareLists,
+    object: compareObjects
+  };
+  function compare(context, path, before, after) {
+    const kind = kindOf(before);
+    if (COMPARISONS[kind] && kind === kindOf(after) && path.length < LONGEST_PATH) {
+      COMPARISONS[kind](context, path, before, after);
+    } else if (!isSame(before, after)) {
+      context.operation.push(...path.length > 0 ? replacementOf(path, before, after) : additionOf(before, after));
+    }
+  }
+  function replacementOf(p, before, after) {
+    return [typeof p[p.length - 1] === "number" ? { p, ld: before, li: after } : { p, od: before, oi: after }];
+  }
+  function additionOf(before, after) {
+    if (typeof before !== "number" || typeof after !== "number")
+      notApplied("a whole document keeps its kind");
+    const amount = after - before;
+    return (Math.abs(amount) <= LARGEST ? [amount] : [0 - before, after]).map((na) => ({ p: [], na }));
+  }
+  function compareObjects(context, path, before, after) {
+    for (const key of Object.keys(before)) {
+      if (!has(after, key))
+        context.operation.push({ p: [...path, key], od: before[key] });
+    }
+    for (const key of Object.keys(after)) {
+      if (!has(before, key))
+        context.operation.push({ p: [...path, key], oi: after[key] });
+      else if (before[key] !== after[key])
+        compare(context, [...path, key], before[key], after[key]);
+    }
+  }
+  function compareLists(context, path, before, after) {
+    const { operation, origins } = context;
+    const isCommon = (one, other) => origins.get(other) === one || isSame(one, other);
+    let [from, to] = [0, 0];
+    for (const [nextFrom, nextTo] of [...commonItems(before, after, isCommon), [before.length, after.length]]) {
+      for (; from < nextFrom && to < nextTo; [from, to] = [from + 1, to + 1]) {
+        compare(context, [...path, to], before[from], after[to]);
+      }
+      for (; from < nextFrom; from += 1)
+        operation.push({ p: [...path, to], ld: before[from] });
+      for (; to < nextTo; to += 1)
+        operation.push({ p: [...path, to], li: after[to] });
+    }
+  }
+  function commonItems(before, after, isCommon) {
+    const shorter = Math.min(before.length, after.length);
+    let front = 0;
+    while (front < shorter && isCommon(before[front], after[front]))
+      front += 1;
+    let [from, to] = [before.length, after.length];
+    while (Math.min(from, to) > front && isCommon(before[from - 1], after[to - 1]))
+      [from, to] = [from - 1, to - 1];
+    const isCommonBetween = (row, column) => isCommon(before[front + row], after[front + column]);
+    const between = commonBetween(from - front, to - front, isCommonBetween);
+    return [...between.map(([row, column]) => [front + row, front + column]), [from, to]];
+  }
+  function commonBetween(rows, columns, isCommon) {
+    const reached = [];
+    for (let count = 0; count <= MOST_DIFFERENCES; count += 1) {
+      const furthest = [];
+      reached.push(furthest);
+      for (let diagonal = -count; diagonal <= count; diagonal += 2) {
+        let { row } = stepTo(reached, count, diagonal);
+        while (row < rows && row - diagonal < columns && isCommon(row, row - diagonal))
+          row += 1;
+        furthest[diagonal + count] = row;
+        if (row >= rows && row - diagonal >= columns)
+          return pairsTo(reached, rows, columns);
+      }
+    }
+    return [];
+  }
+  function stepTo(reached, count, diagonal) {
+    if (count === 0)
+      return { row: 0, before: 0 };
+    const last = reached[count - 1];
+    const [removed, inserted] = [last[diagonal + count - 2], last[diagonal + count]];
+    const isInserted = removed === void 0 || removed < inserted;
+    return isInserted ? { row: inserted, before: diagonal + 1 } : { row: removed + 1, before: diagonal - 1 };
+  }
+  function pairsTo(reached, rows, columns) {
+    const pairs = [];
+    let row = rows;
+    let diagonal = rows - columns;
+    for (let count = reached.length - 1; count > 0; count -= 1) {
+      const step = stepTo(reached, count, diagonal);
+      for (; row > step.row; row -= 1)
+        pairs.push([row - 1, row - 1 - diagonal]);
+      row = step.before < diagonal ? row - 1 : row;
+      diagonal = step.before;
+    }
+    return pairs.reverse();
+  }
+
+  // src/edits.js
+  function replacement(data, path, value) {
+    const read = readData(value);
+    const present = valueAt(data, path, path.length);
+    if (present !== void 0 && isSame(plain(present), read))
+      return [];
+    return [typeof path[path.length - 1] === "number" ? { p: path, ld: null, li: read } : { p: path, oi: read }];
+  }
+  function insertion(data, path, at, value) {
+    const place = valueAt(data, path, path.length);
+    if (typeof place === "string")
+      return [{ p: [...path, at], si: value }];
+    if (Array.isArray(place))
+      return [{ p: [...path, at], li: value }];
+    return notApplied(`there is no list and no text, path ${spelled(path)}`);
+  }
+  function removal(path) {
+    return [typeof path[path.length - 1] === "number" ? { p: path, ld: null } : { p: path, od: null }];
+  }
+  function rangeRemoval(data, path, at, count) {
+    const place = valueAt(data, path, path.length);
+    if (typeof place !== "string" && !Array.isArray(place)) {
+      notApplied(`there is no list and no text, path ${spelled(path)}`);
+    }
+    for (const number of [at, count]) {
+      if (!Number.isSafeInteger(number) || number < 0)
+        refuse("ERR_OT_OP_BADLY_FORMED", `${spelled(number)} is no index`);
+    }
+    const end = at + count;
+    if (end > place.length)
+      notApplied(`the end ${end} exceeds the length ${place.length}, path ${spelled(path)}`);
+    if (typeof place === "string")
+      return [{ p: [...path, at], sd: place.slice(at, end) }];
+    return Array.from({ length: count }, () => ({ p: [...path, at], ld: null }));
+  }
+  function addition(path, amount) {
+    return amount === 0 ? [] : [{ p: path, na: amount }];
+  }
+  function draftOf(value, origins) {
+    if (value === null || typeof value !== "object")
+      return value;
+    const draft = Array.isArray(value) ? value.slice() : { ...value };
+    for (const key of Object.keys(draft))
+      draft[key] = draftOf(draft[key], origins);
+    origins.set(draft, value);
+    return draft;
+  }
+  function checkDraft(value, origins, room) {
+    const origin = value !== null && typeof value === "object" && room > 0 ? origins.get(value) : void 0;
+    if (origin === void 0) {
+      readData(value, "the draft", room);
+      return;
+    }
+    for (const key of Object.keys(value))
+      if (value[key] !== origin[key])
+        checkDraft(value[key], origins, room - 1);
+  }
+  function draftDifference(data, path, change) {
+    const before = plain(valueAt(data, path, path.length));
+    if (before === void 0)
+      notApplied(`there is no value, path ${spelled(path)}`);
+    const origins = /* @__PURE__ */ new Map();
+    const draft = draftOf(before, origins);
+    const result = change(draft);
+    const after = draft === null || typeof draft !== "object" ? result : draft;
+    checkDraft(after, origins, DEEPEST + LONGEST_PATH);
+    return difference(path, before, after, origins);
+  }
+
+  // src/ot/invert.js
+  function removable(value) {
+    const removed = plain(value);
+    return isShallow(removed) ? removed : null;
+  }
+  function completeComponent(data, component, shape) {
+    const depth = containerDepth(component, shape);
+    const place = valueAt(data, component.p, depth);
+    const last = component.p[depth];
+    if (shape === "ld" || shape === "lr") {
+      return Array.isArray(place) && has(place, last) ? { ...component, ld: removable(place[last]) } : component;
+    }
+    if (!KEYED.has(shape) || !isObject(place))
+      return component;
+    const { p, oi } = component;
+    if (!hasMember(place, last))
+      return shape === "od" ? null : { p, oi };
+    const od = removable(memberOf(place, last));
+    return shape === "od" ? { p, od } : { p, od, oi };
+  }
+  function completeOverlaid(data, operation) {
+    const completed = [];
+    let present = data;
+    for (const component of operation) {
+      const one = completeComponent(present, component, shapeOf(component));
+      if (one !== null) {
+        present = applyComponent(present, one);
+        completed.push(one);
+      }
+    }
+    return { operation: completed, data: present };
+  }
+  function complete(data, operation) {
+    const completed = completeOverlaid(data, operation);
+    return { operation: completed.operation, data: plain(completed.data) };
+  }
+  var INVERSES = {
+    na: ({ p, na }) => ({ p, na: 0 - na }),
+    si: ({ p, si }) => ({ p, sd: si }),
+    sd: ({ p, sd }) => ({ p, si: sd }),
+    li: ({ p, li }) => ({ p, ld: li }),
+    ld: ({ p }, old) => ({ p, li: old }),
+    lr: ({ p, li }, old) => ({ p, ld: li, li: old }),
+    oi: ({ p, oi }) => ({ p, od: oi }),
+    od: ({ p }, old) => ({ p, oi: old }),
+    or: ({ p, oi }, old) => ({ p, od: oi, oi: old })
+  };
+  function invert(operation, before) {
+    const inverse = [];
+    let present = before;
+    for (const component of operation) {
+      const one = completeComponent(present, component, shapeOf(component));
+      if (one !== null) {
+        const next = applyComponent(present, one);
+        const shape = shapeOf(one);
+        inverse.push(INVERSES[shape](one, shape === "na" ? void 0 : plain(valueAt(present, one.p, one.p.length))));
+        present = next;
+      }
+    }
+    return inverse.reverse();
+  }
+
+  // src/content.js
+  function applyContent(data, content) {
+    if (content.del)
+      return void 0;
+    if (content.create)
+      return data === void 0 ? content.create.data : refuse("ERR_DOC_ALREADY_CREATED");
+    return data === void 0 ? refuse("ERR_DOC_DOES_NOT_EXIST") : overlaid(
+      data,
+      /** @type {Operation} */
+      content.op
+    );
+  }
+  function crossContents(own, stored) {
+    if (stored.create)
+      return refuse("ERR_DOC_ALREADY_CREATED");
+    if (own.del)
+      return { own, stored: null };
+    if (stored.del)
+      return refuse("ERR_DOC_WAS_DELETED");
+    if (own.create)
+      return refuse("ERR_DOC_ALREADY_CREATED");
+    const crossed = cross(
+      /** @type {Operation} */
+      own.op,
+      /** @type {Operation} */
+      stored.op
+    );
+    return { own: { op: crossed.left }, stored: { op: crossed.right } };
+  }
+  function isComplete(data, { op }) {
+    if (!op || data === void 0)
+      return true;
+    const completed = completeOverlaid(data, op).operation;
+    return completed.length === op.length && completed.every((one, at) => shapeOf(one) === shapeOf(op[at]));
+  }
+  function lengthOf(operation) {
+    return JSON.stringify(operation).length;
+  }
+  function isComposable(components, length) {
+    return components <= MOST_COMPOSED && length <= LONGEST_COMPOSED;
   }
 
   // src/parts.js
@@ -917,8 +1313,9 @@ var Navirotsohy = (() => {
     return { part: whole.slice(0, length), rest: whole.slice(length) };
   }
   function withShortRemoved(operation, room) {
-    if (bytesOf(JSON.stringify(operation)) <= room)
-      return operation;
+    return bytesOf(JSON.stringify(operation)) <= room ? operation : withoutRemovedValues(operation);
+  }
+  function withoutRemovedValues(operation) {
     return (
       /** @type {any} */
       operation.map((one) => REMOVING.has(shapeOf(one)) ? withoutRemoved(one) : one)
@@ -932,14 +1329,15 @@ var Navirotsohy = (() => {
   var Machine = class {
     /**
      * @param {{collection: string, id: string, source: string, nextNumber: () => number, now: () => number,
-     *   freeze?: boolean}} settings
+     *   freeze?: boolean, batch?: boolean}} settings
      */
-    constructor({ collection, id, source, nextNumber, now, freeze = false }) {
+    constructor({ collection, id, source, nextNumber, now, freeze = false, batch = false }) {
       this.address = { c: collection, d: id };
       this.source = source;
       this.nextNumber = nextNumber;
       this.now = now;
       this.freeze = freeze;
+      this.batch = batch;
       this.room = LONGEST_MESSAGE - bytesOf(this.textOf({ op: [] }, Number.MAX_SAFE_INTEGER, Number.MAX_SAFE_INTEGER));
       this.state = "offline";
       this.version = null;
@@ -949,6 +1347,7 @@ var Navirotsohy = (() => {
       this.inFlight = null;
       this.queue = [];
       this.preventCompose = false;
+      this.isHeld = false;
       this.arrived = /* @__PURE__ */ new Map();
       this.fetched = null;
       this.wanted = false;
@@ -1250,7 +1649,7 @@ var Navirotsohy = (() => {
     retry({ request, seq }) {
       if (request === void 0) {
         if (this.inFlight && this.inFlight.seq === seq)
-          this.out.messages.push(this.inFlight.text);
+          this.sendAgain(this.inFlight);
         return;
       }
       this.delayed = this.delayed.filter((one) => one !== request);
@@ -1394,6 +1793,7 @@ var Navirotsohy = (() => {
       const operation = content.op || null;
       if (operation !== null && operation.length === 0)
         return;
+      this.out.changes.push({ operation, source, local, before, data });
       if (operation !== null)
         this.emitDocuments("op", { operation, source, local }, { before, data });
       this.emitLife(content, source, before, local);
@@ -1406,6 +1806,7 @@ var Navirotsohy = (() => {
         this.emitDocuments("remove", { source, local }, { data: before });
     }
     emitWhole(before) {
+      this.out.changes.push({ operation: null, source: null, local: false, before, data: this.data });
       this.emitDocuments("change", { operation: null, source: null, local: false }, { before, data: this.data });
     }
     // Computes `data` anew. The first pending content that can't be applied is dropped with those made on it.
@@ -1506,7 +1907,16 @@ var Navirotsohy = (() => {
       }
       this.checkSendable(done.content);
       this.enqueue(done.content, waiter);
+      if (done.content.op)
+        this.hold();
       this.show(done.data, done.content, source, true);
+    }
+    // Waits for the other edits of this tick, which are joined with this one.
+    hold() {
+      if (!this.batch || this.preventCompose || this.isHeld)
+        return;
+      this.isHeld = true;
+      this.out.release = true;
     }
     completed(operation) {
       if (this.data === void 0)
@@ -1548,9 +1958,16 @@ var Navirotsohy = (() => {
         this.inFlight.sent = true;
         return;
       }
-      const first = this.queue.shift();
+      const first = this.isHeld ? void 0 : this.queue.shift();
       if (first)
         this.sendFirst(first);
+    }
+    // Sends a content again, as it applies now: the server may have refused it since it missed too much.
+    sendAgain(own) {
+      const fits = own.content !== null && (!own.content.op || firstPart(own.content.op, this.room).rest.length === 0);
+      if (fits)
+        own.text = this.textOf(own.content, this.version, own.seq);
+      this.out.messages.push(own.text);
     }
     // An operation that grew beyond the server's limits is sent in parts. Its promise waits for the last one.
     sendFirst({ content, waiters, since }) {
@@ -1688,7 +2105,7 @@ var Navirotsohy = (() => {
     }
   };
   function nothing() {
-    return { messages: [], settled: [], events: [], retries: [], comparison: null };
+    return { messages: [], settled: [], events: [], changes: [], retries: [], comparison: null, release: false };
   }
   var INPUTS = {
     connected: (machine) => machine.connected(),
@@ -1705,6 +2122,7 @@ var Navirotsohy = (() => {
     submit: (machine, input) => machine.submit(input),
     list: (machine, input) => machine.list(input),
     until: (machine, input) => machine.until(input),
+    release: (machine) => machine.isHeld = false,
     kept: () => {
     },
     // only the conditions have changed
@@ -1741,9 +2159,11 @@ var Navirotsohy = (() => {
      */
     constructor(transport, collection, id) {
       super();
-      const { source, nextNumber, clock, freeze } = transport;
-      const machine = new Machine({ collection, id, source, nextNumber, now: clock.now, freeze });
+      const { source, nextNumber, clock, freeze, batch } = transport;
+      const machine = new Machine({ collection, id, source, nextNumber, now: clock.now, freeze, batch });
       const core = { doc: this, transport, machine, collection, id, waiting: false, timer: null, leaving: null };
+      const submitAtOnce2 = (operation, from) => takeEdit(core, () => ({ op: readOperation(operation, Infinity) }), from);
+      Object.assign(core, { observers: /* @__PURE__ */ new Set(), submitAtOnce: submitAtOnce2 });
       Object.defineProperty(this, "_doc", { value: () => core });
     }
     /** A collection, or the name of a projection. */
@@ -1778,7 +2198,7 @@ var Navirotsohy = (() => {
     }
     /**
      * A value of `data`, for documents with large objects: `data` copies each object that has changed since it was read.
-     * @param {import('./ot/component.js').Path} path
+     * @param {Path} path
      * @returns {any} undefined if there is none
      */
     valueAt(path) {
@@ -1822,7 +2242,8 @@ var Navirotsohy = (() => {
       return coreOf(this).machine.wanted;
     }
     /**
-     * Whether each edit is stored as an operation of its own. Otherwise `submit` joins an edit with one that waits.
+     * Whether each edit is stored as an operation of its own, and sent as soon as possible. Otherwise `submit` joins an
+     * edit with one that waits.
      * @type {boolean}
      */
     get preventCompose() {
@@ -1925,8 +2346,9 @@ var Navirotsohy = (() => {
       return ignorable(createdIfAbsent(this, data));
     }
     /**
-     * Edits the document. The edit changes `data` at once, and is sent once the one in flight is stored. It is completed
-     * by `data`: `ld` and `od` become the values that are removed.
+     * Edits the document. The edit changes `data` at once. It is sent once the one in flight is stored, together with the
+     * other edits of this tick, which no `await` separates. It is completed by `data`: `ld` and `od` become the values
+     * that are removed.
      * @param {Operation} operation on `data`
      * @param {SubmitOptions} [options]
      * @returns {Promise<{version: number | null}>} the version at which it is stored, null if there was nothing to store.
@@ -1936,15 +2358,78 @@ var Navirotsohy = (() => {
       return submitted(this, () => ({ op: readOperation(operation) }), options);
     }
     /**
-     * Deletes the document.
-     * @param {SubmitOptions} [options]
+     * Deletes the document. `removeAt` removes a value of it.
+     * @param {SubmitOptions} [options] a path is refused
      * @returns {Promise<{version: number}>}
      */
     remove(options) {
       return (
         /** @type {any} */
-        submitted(this, () => ({ del: true }), options)
+        submitted(this, () => deletion(options), options)
       );
+    }
+    /**
+     * Sets a key of an object, or replaces an item of a list. Of concurrent values the one that is stored later stays.
+     * @param {Path} path of the value
+     * @param {any} value
+     * @param {SubmitOptions} [options]
+     * @returns {Submitted}
+     */
+    set(path, value, options) {
+      return submitEdit(this, path, (data) => replacement(data, path, value), options);
+    }
+    /**
+     * Inserts an item into a list, or a text into a text.
+     * @param {Path} path of the list or text
+     * @param {number} at an index, or an offset in UTF-16 units
+     * @param {any} value an item, or a text
+     * @param {SubmitOptions} [options]
+     * @returns {Submitted}
+     */
+    insert(path, at, value, options) {
+      return submitEdit(this, path, (data) => insertion(data, path, at, value), options);
+    }
+    /**
+     * Removes a key of an object, or an item of a list.
+     * @param {Path} path of the value
+     * @param {SubmitOptions} [options]
+     * @returns {Submitted}
+     */
+    removeAt(path, options) {
+      return submitEdit(this, path, () => removal(path), options);
+    }
+    /**
+     * Removes items of a list, or a part of a text.
+     * @param {Path} path of the list or text
+     * @param {number} at an index, or an offset in UTF-16 units
+     * @param {number} count of items, or of UTF-16 units
+     * @param {SubmitOptions} [options]
+     * @returns {Submitted}
+     */
+    removeRange(path, at, count, options) {
+      return submitEdit(this, path, (data) => rangeRemoval(data, path, at, count), options);
+    }
+    /**
+     * Adds to a number. Concurrent amounts are all added.
+     * @param {Path} path of the number
+     * @param {number} amount
+     * @param {SubmitOptions} [options]
+     * @returns {Submitted}
+     */
+    add(path, amount, options) {
+      return submitEdit(this, path, () => addition(path, amount), options);
+    }
+    /**
+     * Changes the document as the callback changes a copy of it: the smallest operation between them is submitted. It
+     * costs time for each value of the document, or of the part that the option `path` names.
+     * @template [Part=T]
+     * @param {(draft: Part) => unknown} change changes a list or object in place, and returns any other value anew
+     * @param {ChangeOptions} [options]
+     * @returns {Submitted}
+     */
+    change(change, options) {
+      const { path = [] } = options || {};
+      return submitEdit(this, path, (data) => draftDifference(data, path, change), options);
     }
     /**
      * @param {() => void} [listener]
@@ -1971,22 +2456,25 @@ var Navirotsohy = (() => {
     while (machine.canAdvance)
       perform(core, machine.transition({ type: "advance" }));
   }
-  function perform(core, { messages, settled, events, retries, comparison }) {
+  function perform(core, { messages, settled, events, changes, retries, comparison, release }) {
     const { transport, doc } = core;
+    callObservers(core.observers, changes);
     for (const message of messages)
       transport.send(message);
+    if (release)
+      Promise.resolve().then(() => run(core, { type: "release" })).catch(report);
     for (const retry of retries)
       transport.later(() => run(core, retry));
     if (comparison !== null)
-      compare(core, comparison);
+      compare2(core, comparison);
     for (const settle of settled)
       settle();
     observeWaiting(core, events);
     emitAll(doc, events);
   }
-  function compare(core, version) {
-    const receive = (answer) => run(core, { type: "compared", ...answer });
-    core.transport.compare(core.collection, core.id, version, receive);
+  function compare2(core, version) {
+    const receive2 = (answer) => run(core, { type: "compared", ...answer });
+    core.transport.compare(core.collection, core.id, version, receive2);
   }
   function observeWaiting(core, events) {
     const { machine, transport } = core;
@@ -2032,18 +2520,40 @@ var Navirotsohy = (() => {
     if (leaving !== null)
       refuse("ERR_CLOSED");
   }
-  function submitted(doc, read, options) {
-    const { source = doc.source } = options || {};
-    const core = coreOf(doc);
+  function takeEdit(core, read, source) {
     const waiter = { resolve: null, reject: null };
     const stored = new Promise((resolve, reject) => Object.assign(waiter, { resolve, reject }));
+    checkStaying(core);
+    run(core, { type: "submit", content: read(), source, waiter });
+    return ignorable(stored);
+  }
+  function submitted(doc, read, options) {
+    const { source = doc.source } = options || {};
     try {
-      checkStaying(core);
-      run(core, { type: "submit", content: read(), source, waiter });
+      return takeEdit(coreOf(doc), read, source);
     } catch (error) {
       return Promise.reject(error);
     }
-    return ignorable(stored);
+  }
+  function deletion(options) {
+    if (Array.isArray(options))
+      refuse("ERR_OT_OP_BADLY_FORMED", "remove deletes the document, and removeAt a value");
+    return { del: true };
+  }
+  function submitEdit(doc, path, operationFor, options) {
+    const { machine } = coreOf(doc);
+    const read = () => {
+      machine.checkLoaded();
+      const { data } = machine;
+      if (data === void 0)
+        refuse("ERR_DOC_DOES_NOT_EXIST");
+      readPath(path, "the edit");
+      const op = readOperation(operationFor(data), Infinity);
+      if (machine.data !== data)
+        refuse("ERR_OT_OP_NOT_APPLIED", "the document was edited by the callback");
+      return { op };
+    };
+    return submitted(doc, read, options);
   }
   async function subscribed(doc) {
     checkStaying(coreOf(doc));
@@ -2222,7 +2732,8 @@ var Navirotsohy = (() => {
       this.source = options.source;
       this.WebSocket = options.WebSocket;
       const { connectTimeout = 2e4, heartbeat = 2e4, retryDelay = 1e3, longestDelay = 3e4 } = options;
-      const { mostTries = Infinity, clock = PLATFORM, random = Math.random, freeze = isDevelopment() } = options;
+      const { mostTries = Infinity, clock = PLATFORM, random = Math.random } = options;
+      const { freeze = isDevelopment(), batch = true } = options;
       this.connectTimeout = connectTimeout;
       this.heartbeat = heartbeat;
       this.retryDelay = retryDelay;
@@ -2248,14 +2759,19 @@ var Navirotsohy = (() => {
       this.documents = /* @__PURE__ */ new Map();
       this.becameIdle = () => {
       };
-      this.transport = {
+      this.transport = this.transportOf({ freeze, batch });
+    }
+    // Returns what documents need of the connection.
+    transportOf({ freeze, batch }) {
+      return {
         source: this.source,
         clock: this.clock,
         freeze,
+        batch,
         nextNumber: () => this.number += 1,
         send: (text) => this.send(text),
         later: (action) => this.later(action),
-        compare: (c, d, v, receive) => this.request({ a: "nf", c, d, v }, true, receive),
+        compare: (c, d, v, receive2) => this.request({ a: "nf", c, d, v }, true, receive2),
         snapshot: (c, d, v) => this.snapshot({ a: "nf", c, d, v }),
         snapshotAtTime: (c, d, ts) => this.snapshot({ a: "nt", c, d, ts }),
         forget: (doc) => this.forget(doc)
@@ -2283,7 +2799,13 @@ var Navirotsohy = (() => {
         throw error;
       }
     }
+    // Sends the edits of this tick, before the connection ends.
+    release() {
+      for (const core of [...this.documents.values()])
+        run(core, { type: "release" });
+    }
     disconnect() {
+      this.release();
       this.want(false);
       this.setTimer(null);
       emitAll(this.client, this.end("disconnected", "disconnected"));
@@ -2291,6 +2813,7 @@ var Navirotsohy = (() => {
     close() {
       if (this.state === "closed")
         return;
+      this.release();
       this.want(false);
       this.setTimer(null);
       const ended = this.end("disconnected", "closed");
@@ -2336,10 +2859,10 @@ var Navirotsohy = (() => {
     }
     // Snapshots ----------------------------------------------------------------------------------------------------
     // Requests a snapshot. One for a document itself is of use only over this connection.
-    request(message, isOwn, receive) {
+    request(message, isOwn, receive2) {
       this.requested += 1;
       const text = JSON.stringify({ ...message, id: this.requested });
-      this.requests.set(this.requested, { text, isOwn, receive });
+      this.requests.set(this.requested, { text, isOwn, receive: receive2 });
       this.send(text);
     }
     receiveSnapshot(message) {
@@ -2361,8 +2884,8 @@ var Navirotsohy = (() => {
       const requests = [...this.requests.values()];
       this.requests.clear();
       this.observeIdle();
-      for (const { receive } of requests)
-        receive({ error });
+      for (const { receive: receive2 } of requests)
+        receive2({ error });
     }
     // Sending ------------------------------------------------------------------------------------------------------
     send(text) {
@@ -2838,41 +3361,126 @@ var Navirotsohy = (() => {
     return request(connection.client);
   }
 
-  // src/ot/text.js
-  function commonFront(before, after, most) {
-    let length = 0;
-    while (length < most && before[length] === after[length])
-      length += 1;
-    return isHighHalf(before.charCodeAt(length - 1)) ? length - 1 : length;
-  }
-  function commonEnd(before, after, most) {
-    let length = 0;
-    while (length < most && before[before.length - 1 - length] === after[after.length - 1 - length])
-      length += 1;
-    return isLowHalf(before.charCodeAt(before.length - length)) ? length - 1 : length;
-  }
-  function textChange(path, before, after, caret = 0) {
-    const shorter = Math.min(before.length, after.length);
-    const afterCaret = commonEnd(before, after, Math.min(shorter, after.length - caret));
-    const front = commonFront(before, after, shorter - afterCaret);
-    const end = commonEnd(before, after, shorter - front);
-    const at = [...path, front];
-    const removed = before.slice(front, before.length - end);
-    const inserted = after.slice(front, after.length - end);
-    return [
-      ...removed === "" ? [] : [{ p: at, sd: removed }],
-      ...inserted === "" ? [] : [{ p: at, si: inserted }]
-    ];
-  }
-  function transformOffset(offset, operation, path) {
-    let carets = [{ p: [...path, offset], si: "" }];
-    for (const component of operation) {
-      carets = carets.flatMap((caret) => transformComponent(caret, component, LEFT));
+  // src/undo.js
+  var UndoManager = class extends Emitter {
+    /**
+     * @param {import('./doc.js').Doc<any>} doc
+     * @param {UndoOptions} [options]
+     */
+    constructor(doc, options = {}) {
+      super();
+      const { groupBy = 500, limit = 100 } = options;
+      const state = { doc, groupBy, limit, undos: [], redos: [], isOpen: false, target: null, emitted: "0 0" };
+      const stops = [observe(doc, (change) => receive(state, change)), doc.on("change", () => emitChange(this))];
+      Object.assign(state, { stops });
+      Object.defineProperty(this, "_undo", { value: () => state });
     }
-    return carets.length === 0 ? 0 : (
-      /** @type {number} */
-      carets[0].p[carets[0].p.length - 1]
-    );
+    /** @returns {boolean} */
+    get canUndo() {
+      return stateOf2(this).undos.length > 0;
+    }
+    /** @returns {boolean} */
+    get canRedo() {
+      return stateOf2(this).redos.length > 0;
+    }
+    /**
+     * Undoes the last group of own edits. If its inverse is refused at once, no group can be undone any more.
+     * @returns {Promise<{version: number | null}>} as of `submit`; null if there was nothing to undo
+     */
+    undo() {
+      return applyLast(this, "undos", "redos");
+    }
+    /**
+     * Redoes what was undone last, if no own edit was made since.
+     * @returns {Promise<{version: number | null}>} as of `submit`; null if there was nothing to redo
+     */
+    redo() {
+      return applyLast(this, "redos", "undos");
+    }
+    /** Forgets what can be undone and redone. */
+    clear() {
+      Object.assign(stateOf2(this), { undos: [], redos: [] });
+      emitChange(this);
+    }
+    /** Ends the manager: later edits can't be undone by it. */
+    stop() {
+      for (const stop of stateOf2(this).stops.splice(0))
+        stop();
+      this.clear();
+    }
+  };
+  function stateOf2(manager) {
+    return manager._undo();
+  }
+  function emitChange(manager) {
+    const state = stateOf2(manager);
+    const { canUndo, canRedo } = manager;
+    const counted = `${state.undos.length} ${state.redos.length}`;
+    if (counted === state.emitted)
+      return;
+    state.emitted = counted;
+    manager.emit("change", { canUndo, canRedo });
+  }
+  function applyLast(manager, from, target) {
+    const state = stateOf2(manager);
+    const group = state[from].pop();
+    if (group === void 0)
+      return Promise.resolve({ version: null });
+    state.target = target;
+    try {
+      return submitAtOnce(state.doc, group.operation, manager);
+    } catch (error) {
+      state[from] = [];
+      emitChange(manager);
+      return Promise.reject(error);
+    } finally {
+      state.target = null;
+    }
+  }
+  function receive(state, { operation, local, before }) {
+    if (operation === null) {
+      Object.assign(state, { undos: [], redos: [] });
+    } else if (local) {
+      keepInverse(state, withoutRemovedValues(invert(operation, before)));
+    } else {
+      state.undos = transformGroups(state.undos, operation);
+      state.redos = transformGroups(state.redos, operation);
+    }
+  }
+  function keepInverse(state, inverse) {
+    const { doc, target, undos, groupBy, limit } = state;
+    state.target = null;
+    const time = doc._doc().machine.now();
+    const length = lengthOf(inverse);
+    const last = state.isOpen ? undos[undos.length - 1] : void 0;
+    if (target !== null) {
+      state[target].push({ operation: inverse, length, time });
+    } else if (last && isJoined(last, inverse, length, time - groupBy)) {
+      Object.assign(last, { operation: compose(inverse, last.operation), length: last.length + length, time });
+    } else {
+      undos.push({ operation: inverse, length, time });
+    }
+    state.isOpen = target === null;
+    if (target === null)
+      state.redos = [];
+    if (state.undos.length > limit)
+      state.undos.shift();
+  }
+  function isJoined(last, inverse, length, since) {
+    return last.time > since && isComposable(last.operation.length + inverse.length, last.length + length);
+  }
+  function transformGroups(groups, operation) {
+    const kept = [];
+    let other = operation;
+    for (const group of groups.slice().reverse()) {
+      const crossed = orRefusal(() => cross(group.operation, other), () => null);
+      if (crossed === null)
+        break;
+      other = crossed.right;
+      if (crossed.left.length > 0)
+        kept.push({ ...group, operation: crossed.left });
+    }
+    return kept.reverse();
   }
   return __toCommonJS(src_exports);
 })();

@@ -27,7 +27,8 @@ __export(ot_exports, {
   invert: () => invert,
   textChange: () => textChange,
   transformComponent: () => transformComponent,
-  transformOffset: () => transformOffset
+  transformOffset: () => transformOffset,
+  transformPosition: () => transformPosition
 });
 module.exports = __toCommonJS(ot_exports);
 
@@ -613,13 +614,20 @@ function textChange(path, before, after, caret = 0) {
     ...inserted === "" ? [] : [{ p: at, si: inserted }]
   ];
 }
-function transformOffset(offset, operation, path) {
-  let carets = [{ p: [...path, offset], si: "" }];
+function caretAfter(p, operation, side) {
+  let carets = [{ p, si: "" }];
   for (const component of operation) {
-    carets = carets.flatMap((caret) => transformComponent(caret, component, LEFT));
+    carets = carets.flatMap((caret) => transformComponent(caret, component, side));
   }
-  return carets.length === 0 ? 0 : (
+  return carets.length === 0 ? null : carets[0].p;
+}
+function transformPosition(position, operation, path, side) {
+  const after = caretAfter([...path, position], operation, side);
+  return after === null ? 0 : (
     /** @type {number} */
-    carets[0].p[carets[0].p.length - 1]
+    after[after.length - 1]
   );
+}
+function transformOffset(offset, operation, path) {
+  return transformPosition(offset, operation, path, LEFT);
 }

@@ -49,6 +49,8 @@ import { isObject } from './ot/component.js';
  *   connection that is lost within 5 seconds is a failure too
  * @property {boolean} [freeze] freezes the data of documents, so that a write to them throws: by default if
  *   `process.env.NODE_ENV` is 'development'
+ * @property {boolean} [batch] false: an edit is sent at once if none is in flight. By default the edits of one tick,
+ *   which no `await` separates, are sent together
  * @property {Clock} [clock] the timers; those of the platform by default
  * @property {() => number} [random] from 0 to below 1, for the delays
  */
@@ -243,7 +245,8 @@ class Connection {
     this.source = options.source;
     this.WebSocket = options.WebSocket;
     const { connectTimeout = 20000, heartbeat = 20000, retryDelay = 1000, longestDelay = 30000 } = options;
-    const { mostTries = Infinity, clock = PLATFORM, random = Math.random, freeze = isDevelopment() } = options;
+    const { mostTries = Infinity, clock = PLATFORM, random = Math.random } = options;
+    const { freeze = isDevelopment(), batch = true } = options;
     this.connectTimeout = connectTimeout;
     this.heartbeat = heartbeat;
     this.retryDelay = retryDelay;
@@ -268,10 +271,16 @@ class Connection {
     this.requests = new Map(); // requested snapshots, by number: { text, isOwn, receive }
     this.documents = new Map();
     this.becameIdle = () => {}; // called when there is no document and no requested snapshot any more
-    this.transport = {
+    this.transport = this.transportOf({ freeze, batch });
+  }
+
+  // Returns what documents need of the connection.
+  transportOf({ freeze, batch }) {
+    return {
       source: this.source,
       clock: this.clock,
       freeze,
+      batch,
       nextNumber: () => (this.number += 1),
       send: (text) => this.send(text),
       later: (action) => this.later(action),
@@ -303,7 +312,13 @@ class Connection {
     }
   }
 
+  // Sends the edits of this tick, before the connection ends.
+  release() {
+    for (const core of [...this.documents.values()]) run(core, { type: 'release' });
+  }
+
   disconnect() {
+    this.release();
     this.want(false);
     this.setTimer(null);
     emitAll(this.client, this.end('disconnected', 'disconnected'));
@@ -311,6 +326,7 @@ class Connection {
 
   close() {
     if (this.state === 'closed') return;
+    this.release();
     this.want(false);
     this.setTimer(null);
     const ended = this.end('disconnected', 'closed');

@@ -2,17 +2,20 @@
  * A document, as an application uses it.
  * @module
  */
+import { addition, draftDifference, insertion, rangeRemoval, removal, replacement } from './edits.js';
 import { Emitter, emitAll, report } from './emitter.js';
 import { Refusal, refuse } from './errors.js';
 import { TYPE } from './limits.js';
 import { Machine } from './machine.js';
+import { callObservers } from './observers.js';
 import { valueAt } from './ot/apply.js';
-import { readData, readOperation } from './ot/component.js';
+import { readData, readOperation, readPath } from './ot/component.js';
 
 /** Milliseconds after which a pending edit is reported as waiting. */
 export const PATIENCE = 2000;
 
 /** @typedef {import('./ot/component.js').Operation} Operation */
+/** @typedef {import('./ot/component.js').Path} Path */
 /**
  * @template T
  * @typedef {import('./ot/component.js').Frozen<T>} Frozen
@@ -53,6 +56,8 @@ export const PATIENCE = 2000;
  * @property {Refusal} error the document can't be subscribed to or fetched
  */
 /** @typedef {{source?: any}} SubmitOptions `source` is any value, which listeners receive */
+/** @typedef {SubmitOptions & {path?: Path}} ChangeOptions `path` leads to the value that is changed */
+/** @typedef {Promise<{version: number | null}>} Submitted the version, or null if there was nothing to store */
 
 /**
  * A document that is fetched or subscribed to, and edited. `Client.document` returns it.
@@ -68,10 +73,12 @@ export class Doc extends Emitter {
    */
   constructor(transport, collection, id) {
     super();
-    const { source, nextNumber, clock, freeze } = transport;
-    const machine = new Machine({ collection, id, source, nextNumber, now: clock.now, freeze });
+    const { source, nextNumber, clock, freeze, batch } = transport;
+    const machine = new Machine({ collection, id, source, nextNumber, now: clock.now, freeze, batch });
     // (the state is in a closure, so that a proxy of the document works too)
     const core = { doc: this, transport, machine, collection, id, waiting: false, timer: null, leaving: null };
+    const submitAtOnce = (operation, from) => takeEdit(core, () => ({ op: readOperation(operation, Infinity) }), from);
+    Object.assign(core, { observers: new Set(), submitAtOnce });
     Object.defineProperty(this, '_doc', { value: () => core });
   }
 
@@ -112,7 +119,7 @@ export class Doc extends Emitter {
 
   /**
    * A value of `data`, for documents with large objects: `data` copies each object that has changed since it was read.
-   * @param {import('./ot/component.js').Path} path
+   * @param {Path} path
    * @returns {any} undefined if there is none
    */
   valueAt(path) {
@@ -162,7 +169,8 @@ export class Doc extends Emitter {
   }
 
   /**
-   * Whether each edit is stored as an operation of its own. Otherwise `submit` joins an edit with one that waits.
+   * Whether each edit is stored as an operation of its own, and sent as soon as possible. Otherwise `submit` joins an
+   * edit with one that waits.
    * @type {boolean}
    */
   get preventCompose() {
@@ -273,8 +281,9 @@ export class Doc extends Emitter {
   }
 
   /**
-   * Edits the document. The edit changes `data` at once, and is sent once the one in flight is stored. It is completed
-   * by `data`: `ld` and `od` become the values that are removed.
+   * Edits the document. The edit changes `data` at once. It is sent once the one in flight is stored, together with the
+   * other edits of this tick, which no `await` separates. It is completed by `data`: `ld` and `od` become the values
+   * that are removed.
    * @param {Operation} operation on `data`
    * @param {SubmitOptions} [options]
    * @returns {Promise<{version: number | null}>} the version at which it is stored, null if there was nothing to store.
@@ -285,12 +294,81 @@ export class Doc extends Emitter {
   }
 
   /**
-   * Deletes the document.
-   * @param {SubmitOptions} [options]
+   * Deletes the document. `removeAt` removes a value of it.
+   * @param {SubmitOptions} [options] a path is refused
    * @returns {Promise<{version: number}>}
    */
   remove(options) {
-    return /** @type {any} */ (submitted(this, () => ({ del: true }), options));
+    return /** @type {any} */ (submitted(this, () => deletion(options), options));
+  }
+
+  /**
+   * Sets a key of an object, or replaces an item of a list. Of concurrent values the one that is stored later stays.
+   * @param {Path} path of the value
+   * @param {any} value
+   * @param {SubmitOptions} [options]
+   * @returns {Submitted}
+   */
+  set(path, value, options) {
+    return submitEdit(this, path, (data) => replacement(data, path, value), options);
+  }
+
+  /**
+   * Inserts an item into a list, or a text into a text.
+   * @param {Path} path of the list or text
+   * @param {number} at an index, or an offset in UTF-16 units
+   * @param {any} value an item, or a text
+   * @param {SubmitOptions} [options]
+   * @returns {Submitted}
+   */
+  insert(path, at, value, options) {
+    return submitEdit(this, path, (data) => insertion(data, path, at, value), options);
+  }
+
+  /**
+   * Removes a key of an object, or an item of a list.
+   * @param {Path} path of the value
+   * @param {SubmitOptions} [options]
+   * @returns {Submitted}
+   */
+  removeAt(path, options) {
+    return submitEdit(this, path, () => removal(path), options);
+  }
+
+  /**
+   * Removes items of a list, or a part of a text.
+   * @param {Path} path of the list or text
+   * @param {number} at an index, or an offset in UTF-16 units
+   * @param {number} count of items, or of UTF-16 units
+   * @param {SubmitOptions} [options]
+   * @returns {Submitted}
+   */
+  removeRange(path, at, count, options) {
+    return submitEdit(this, path, (data) => rangeRemoval(data, path, at, count), options);
+  }
+
+  /**
+   * Adds to a number. Concurrent amounts are all added.
+   * @param {Path} path of the number
+   * @param {number} amount
+   * @param {SubmitOptions} [options]
+   * @returns {Submitted}
+   */
+  add(path, amount, options) {
+    return submitEdit(this, path, () => addition(path, amount), options);
+  }
+
+  /**
+   * Changes the document as the callback changes a copy of it: the smallest operation between them is submitted. It
+   * costs time for each value of the document, or of the part that the option `path` names.
+   * @template [Part=T]
+   * @param {(draft: Part) => unknown} change changes a list or object in place, and returns any other value anew
+   * @param {ChangeOptions} [options]
+   * @returns {Submitted}
+   */
+  change(change, options) {
+    const { path = [] } = options || {};
+    return submitEdit(this, path, (data) => draftDifference(data, path, change), options);
   }
 
   /**
@@ -324,9 +402,11 @@ export function run(core, input) {
   while (machine.canAdvance) perform(core, machine.transition({ type: 'advance' }));
 }
 
-function perform(core, { messages, settled, events, retries, comparison }) {
+function perform(core, { messages, settled, events, changes, retries, comparison, release }) {
   const { transport, doc } = core;
+  callObservers(core.observers, changes);
   for (const message of messages) transport.send(message);
+  if (release) Promise.resolve().then(() => run(core, { type: 'release' })).catch(report);
   for (const retry of retries) transport.later(() => run(core, retry));
   if (comparison !== null) compare(core, comparison);
   for (const settle of settled) settle();
@@ -392,19 +472,42 @@ function checkStaying({ leaving }) {
   if (leaving !== null) refuse('ERR_CLOSED');
 }
 
-// An edit that can't be applied here is refused before `data` changes.
-function submitted(doc, read, options) {
-  const { source = doc.source } = options || {};
-  const core = coreOf(doc);
+// Takes an edit. One that can't be applied here is refused by an exception, before `data` changes.
+function takeEdit(core, read, source) {
   const waiter = { resolve: null, reject: null };
   const stored = new Promise((resolve, reject) => Object.assign(waiter, { resolve, reject }));
+  checkStaying(core);
+  run(core, { type: 'submit', content: read(), source, waiter });
+  return ignorable(stored);
+}
+
+function submitted(doc, read, options) {
+  const { source = doc.source } = options || {};
   try {
-    checkStaying(core);
-    run(core, { type: 'submit', content: read(), source, waiter });
+    return takeEdit(coreOf(doc), read, source);
   } catch (error) {
     return Promise.reject(error);
   }
-  return ignorable(stored);
+}
+
+function deletion(options) {
+  if (Array.isArray(options)) refuse('ERR_OT_OP_BADLY_FORMED', 'remove deletes the document, and removeAt a value');
+  return { del: true };
+}
+
+// An operation that is made for the document. It may have more components than a message.
+function submitEdit(doc, path, operationFor, options) {
+  const { machine } = coreOf(doc);
+  const read = () => {
+    machine.checkLoaded();
+    const { data } = machine;
+    if (data === undefined) refuse('ERR_DOC_DOES_NOT_EXIST');
+    readPath(path, 'the edit');
+    const op = readOperation(operationFor(data), Infinity);
+    if (machine.data !== data) refuse('ERR_OT_OP_NOT_APPLIED', 'the document was edited by the callback');
+    return { op };
+  };
+  return submitted(doc, read, options);
 }
 
 async function subscribed(doc) {

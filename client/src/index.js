@@ -11,12 +11,16 @@
  *     await board.submit([{ p: ['votes'], na: 1 }]);
  * @module
  */
+export { bindText } from './bind_text.js';
 export { Cluster, bucketOf } from './cluster.js';
 export { Client } from './connection.js';
+export { difference } from './difference.js';
 export { Doc } from './doc.js';
 export { Emitter } from './emitter.js';
 export { Refusal } from './errors.js';
-export { apply, complete, compose, cross, invert, textChange, transformComponent, transformOffset } from './ot/index.js';
+export { UndoManager } from './undo.js';
+export { apply, complete, compose, cross, invert, textChange, transformComponent } from './ot/index.js';
+export { transformOffset, transformPosition } from './ot/index.js';
 
 /** @typedef {import('./ot/component.js').Data} Data */
 /** @typedef {import('./ot/component.js').Path} Path */
@@ -28,10 +32,15 @@ export { apply, complete, compose, cross, invert, textChange, transformComponent
  */
 /** @typedef {import('./content.js').Content} Content */
 /** @typedef {import('./errors.js').Code} Code */
+/** @typedef {import('./doc.js').ChangeOptions} ChangeOptions */
 /** @typedef {import('./doc.js').Entry} Entry */
 /** @typedef {import('./doc.js').DocState} DocState */
 /** @typedef {import('./doc.js').Seen} Seen */
 /** @typedef {import('./doc.js').SubmitOptions} SubmitOptions */
+/** @typedef {import('./bind_text.js').TextBinding} TextBinding */
+/** @typedef {import('./bind_text.js').TextBindingOptions} TextBindingOptions */
+/** @typedef {import('./undo.js').UndoEvents} UndoEvents */
+/** @typedef {import('./undo.js').UndoOptions} UndoOptions */
 /** @typedef {import('./cluster.js').BucketState} BucketState */
 /** @typedef {import('./cluster.js').ClusterEvents} ClusterEvents */
 /** @typedef {import('./cluster.js').ClusterOptions} ClusterOptions */

@@ -60,6 +60,8 @@ import { firstPart, withShortRemoved } from './parts.js';
  * @property {Array<[string, any]>} events to emit
  * @property {Array<object>} retries inputs that follow after a delay
  * @property {number | null} comparison the version of a snapshot to request, for a `compared` input
+ * @property {import('./observers.js').Change[]} changes of `data`, in their order
+ * @property {boolean} release whether a `release` input follows once the present tick ends
  */
 
 const NEWER = 'ERR_OP_VERSION_NEWER_THAN_CURRENT_SNAPSHOT';
@@ -72,14 +74,15 @@ const numberIsUsed = (version) => refusal('ERR_PROTOCOL', `another operation has
 export class Machine {
   /**
    * @param {{collection: string, id: string, source: string, nextNumber: () => number, now: () => number,
-   *   freeze?: boolean}} settings
+   *   freeze?: boolean, batch?: boolean}} settings
    */
-  constructor({ collection, id, source, nextNumber, now, freeze = false }) {
+  constructor({ collection, id, source, nextNumber, now, freeze = false, batch = false }) {
     this.address = { c: collection, d: id };
     this.source = source;
     this.nextNumber = nextNumber;
     this.now = now;
     this.freeze = freeze;
+    this.batch = batch; // edits of one tick, without an `await` between them, are sent together
     // bytes of the components of a message
     this.room = LONGEST_MESSAGE - bytesOf(this.textOf({ op: [] }, Number.MAX_SAFE_INTEGER, Number.MAX_SAFE_INTEGER));
     /** @type {State} */
@@ -94,6 +97,7 @@ export class Machine {
     /** @type {Queued[]} */
     this.queue = [];
     this.preventCompose = false; // an edit isn't joined with a waiting one
+    this.isHeld = false; // the next content is sent after a `release` input
     this.arrived = new Map(); // stored operations received before their turn, by version
     this.fetched = null; // a snapshot to compare with, once its version is seen
     this.wanted = false; // a subscription is wanted
@@ -395,7 +399,7 @@ export class Machine {
 
   retry({ request, seq }) {
     if (request === undefined) {
-      if (this.inFlight && this.inFlight.seq === seq) this.out.messages.push(this.inFlight.text);
+      if (this.inFlight && this.inFlight.seq === seq) this.sendAgain(this.inFlight);
       return;
     }
     this.delayed = this.delayed.filter((one) => one !== request);
@@ -533,6 +537,7 @@ export class Machine {
     this.data = data;
     const operation = content.op || null;
     if (operation !== null && operation.length === 0) return;
+    this.out.changes.push({ operation, source, local, before, data });
     if (operation !== null) this.emitDocuments('op', { operation, source, local }, { before, data });
     this.emitLife(content, source, before, local);
     this.emitDocuments('change', { operation, source, local }, { before, data });
@@ -544,6 +549,7 @@ export class Machine {
   }
 
   emitWhole(before) {
+    this.out.changes.push({ operation: null, source: null, local: false, before, data: this.data });
     this.emitDocuments('change', { operation: null, source: null, local: false }, { before, data: this.data });
   }
 
@@ -650,7 +656,15 @@ export class Machine {
     }
     this.checkSendable(done.content);
     this.enqueue(done.content, waiter);
+    if (done.content.op) this.hold();
     this.show(done.data, done.content, source, true);
+  }
+
+  // Waits for the other edits of this tick, which are joined with this one.
+  hold() {
+    if (!this.batch || this.preventCompose || this.isHeld) return;
+    this.isHeld = true;
+    this.out.release = true;
   }
 
   completed(operation) {
@@ -693,8 +707,15 @@ export class Machine {
       this.inFlight.sent = true;
       return;
     }
-    const first = this.queue.shift();
+    const first = this.isHeld ? undefined : this.queue.shift();
     if (first) this.sendFirst(first);
+  }
+
+  // Sends a content again, as it applies now: the server may have refused it since it missed too much.
+  sendAgain(own) {
+    const fits = own.content !== null && (!own.content.op || firstPart(own.content.op, this.room).rest.length === 0);
+    if (fits) own.text = this.textOf(own.content, this.version, own.seq);
+    this.out.messages.push(own.text);
   }
 
   // An operation that grew beyond the server's limits is sent in parts. Its promise waits for the last one.
@@ -829,7 +850,7 @@ export class Machine {
 // Returns the effects of a transition that has none.
 /** @returns {Omit<Transition, 'state'>} */
 function nothing() {
-  return { messages: [], settled: [], events: [], retries: [], comparison: null };
+  return { messages: [], settled: [], events: [], changes: [], retries: [], comparison: null, release: false };
 }
 
 const INPUTS = {
@@ -847,6 +868,7 @@ const INPUTS = {
   submit: (machine, input) => machine.submit(input),
   list: (machine, input) => machine.list(input),
   until: (machine, input) => machine.until(input),
+  release: (machine) => (machine.isHeld = false),
   kept: () => {}, // only the conditions have changed
   advance: () => {}, // each transition processes an operation, if there is one
   discard: (machine, input) => machine.discard(input),

@@ -73,6 +73,14 @@ export function firstPart(operation, room) {
  * @returns {Operation}
  */
 export function withShortRemoved(operation, room) {
-  if (bytesOf(JSON.stringify(operation)) <= room) return operation;
+  return bytesOf(JSON.stringify(operation)) <= room ? operation : withoutRemovedValues(operation);
+}
+
+/**
+ * The operation with all removed values as null.
+ * @param {Operation} operation
+ * @returns {Operation}
+ */
+export function withoutRemovedValues(operation) {
   return /** @type {any} */ (operation.map((one) => (REMOVING.has(shapeOf(one)) ? withoutRemoved(one) : one)));
 }

@@ -248,6 +248,18 @@ test('an allocation failure: the same message is sent again', OPTIONS, () => {
   holds(doc, 4, 'abcd');
 });
 
+test('an allocation failure: an edit is sent again as it applies now', OPTIONS, () => {
+  const { clock, doc, socket } = loaded();
+  doc.submit(insert(3, 'd'));
+  socket.taken();
+  socket.answer(refused('op', 'ERR_OUT_OF_MEMORY', { src: 'me', seq: 1 }));
+  socket.answer(stored(3, insert(0, 'xy'), 'you', 1));
+  clock.advance(SOON);
+  assert.deepStrictEqual(socket.taken(), [{ a: 'op', ...ADDRESS, v: 4, src: 'me', seq: 1, op: insert(5, 'd') }]);
+  socket.answer(acknowledged(4, 1));
+  holds(doc, 5, 'xyabcd');
+});
+
 test('an allocation failure: nothing is sent again over another connection', OPTIONS, () => {
   const all = loaded();
   const { client, clock, doc, socket, sockets } = all;

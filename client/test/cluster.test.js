@@ -15,7 +15,8 @@ const OTHER = 'd7';
 function cluster(options = {}, buckets = 4, address = 'ws://test') {
   const sockets = scripted();
   const clock = new ManualClock();
-  const settings = { source: 'me', WebSocket: sockets.WebSocket, clock, random: () => 0, heartbeat: 1e9, ...options };
+  const { WebSocket } = sockets;
+  const settings = { source: 'me', WebSocket, clock, random: () => 0, heartbeat: 1e9, batch: false, ...options };
   const made = new Cluster(address, buckets, settings);
   const events = [];
   for (const name of ['state', 'close', 'error']) made.on(name, (detail) => events.push([name, detail]));

@@ -388,7 +388,8 @@ test('a document, a client and an emitter work through a proxy', OPTIONS, async 
     },
   });
   const sockets = scripted();
-  const client = reactive(new Client('ws://test', { source: 'me', WebSocket: sockets.WebSocket, clock: new ManualClock() }));
+  const options = { source: 'me', WebSocket: sockets.WebSocket, clock: new ManualClock(), batch: false };
+  const client = reactive(new Client('ws://test', options));
   const doc = reactive(client.document(ADDRESS.c, ADDRESS.d));
   const told = [];
   doc.on('op', ({ local }) => told.push(local));

@@ -1,14 +1,15 @@
 /*
- * Random clients at the model's server: edits, lost connections, subscriptions and fetches, and in half of the runs
- * also deletes and creates. At the end each client holds the server's document, each promise has told the truth, and an
- * editor that applies `op` alone has the same document.
+ * Random clients at the model's server: edits, undo and redo, lost connections, subscriptions and fetches, and in half
+ * of the runs also deletes and creates. At the end each client holds the server's document, each promise has told the
+ * truth, and an editor that applies `op` alone has the same document. Half of the runs send the edits of a tick
+ * together.
  */
 
 import assert from 'node:assert';
 import fs from 'node:fs';
 import { test } from 'node:test';
 import { isDeepStrictEqual } from 'node:util';
-import { apply, cross, invert } from '../src/index.js';
+import { UndoManager, apply, cross, invert } from '../src/index.js';
 import { flush } from './support/clock.js';
 import { randomEdit, startDocument } from './support/edits.js';
 import { Net } from './support/net.js';
@@ -23,13 +24,14 @@ const START = () => startDocument(Number.MAX_SAFE_INTEGER - 3);
 // A client ------------------------------------------------------------------------------------------------------
 
 class Participant {
-  constructor(net, name, hasLife) {
-    Object.assign(this, net.client(name));
+  constructor(net, name, { hasLife, batch }) {
+    Object.assign(this, net.client(name, { batch }));
     this.outcomes = [];
     this.faults = [];
     this.mirror = undefined;
     this.refused = [];
     const { doc } = this;
+    this.manager = new UndoManager(doc, { groupBy: 0, limit: 9 });
     doc.on('op', ({ operation, before }) => {
       if (!isDeepStrictEqual(before, this.mirror)) this.faults.push(['before', before, this.mirror]);
       this.mirror = apply(this.mirror, operation);
@@ -78,8 +80,10 @@ function step(chosen, net, all, hasLife) {
   const { random, pick } = chosen;
   const one = pick(all);
   const link = net.links.length > 0 ? pick(net.links) : null;
-  const kind = random(30);
-  if (kind < 9) {
+  const kind = random(32);
+  if (kind > 29) {
+    one.submit(() => (kind === 30 ? one.manager.undo() : one.manager.redo()));
+  } else if (kind < 9) {
     const { data } = one.doc;
     if (data) one.submit(() => one.doc.submit(randomEdit(chosen, data)));
   } else if (kind === 9) {
@@ -106,13 +110,14 @@ function step(chosen, net, all, hasLife) {
 async function play(seed) {
   const chosen = choices(seed);
   const hasLife = seed % 2 === 0;
+  const batch = seed % 4 < 2;
   const net = new Net();
   const first = net.client('first').doc;
   first.fetch();
   net.deliver();
   first.create(START());
   net.deliver();
-  const all = Array.from({ length: CLIENTS }, (_, at) => new Participant(net, `c${at}`, hasLife));
+  const all = Array.from({ length: CLIENTS }, (_, at) => new Participant(net, `c${at}`, { hasLife, batch }));
   for (let made = 0; made < STEPS; made += 1) {
     step(chosen, net, all, hasLife);
     if (chosen.random(4) === 0) await flush();
@@ -194,7 +199,7 @@ test('edits around destroy: each is stored and fulfilled, or refused and not sto
   const seed = seedOf('destroy');
   for (let run = 0; run < RUNS * 4; run += 1) {
     const net = new Net();
-    const [first, other] = [net.client('first'), net.client('other')];
+    const [first, other] = [net.client('first', { batch: run % 2 === 0 }), net.client('other')];
     other.doc.subscribe().catch(() => {});
     net.deliver();
     other.doc.create({ t: '', n: 0 });

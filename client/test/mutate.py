@@ -24,9 +24,25 @@ CLIENT = pathlib.Path(__file__).resolve().parent.parent
 PATIENCE = 30  # seconds for the tests of one change
 # The test files by the folder of the changed file, the one that detects the most first.
 TESTS = {
+    "ot/text.js": ["ot.test.js", "bind_text.test.js", "cases.test.js"],
     "ot/": ["ot.test.js", "faults.test.js", "cases.test.js"],
     "cluster.js": ["cluster.test.js"],
-    "": ["parts.test.js", "cases.test.js", "connection.test.js", "cluster.test.js", "fuzz.test.js", "faults.test.js", "ot.test.js"],
+    "edits.js": ["edits.test.js"],
+    "difference.js": ["edits.test.js"],
+    "undo.js": ["undo.test.js"],
+    "bind_text.js": ["bind_text.test.js"],
+    "observers.js": ["undo.test.js"],
+    "": [
+        "batch.test.js",
+        "parts.test.js",
+        "cases.test.js",
+        "connection.test.js",
+        "cluster.test.js",
+        "fuzz.test.js",
+        "faults.test.js",
+        "ot.test.js",
+        "undo.test.js",
+    ],
 }
 FIXED = {"SEED": "7", "CASES": "1500", "RUNS": "6", "TIMEOUT": "10000"}
 RULES = [

@@ -8,11 +8,13 @@ import path from 'node:path';
 import { test } from 'node:test';
 import { fileURLToPath } from 'node:url';
 import vm from 'node:vm';
+import zlib from 'node:zlib';
 
 const TEST = path.dirname(fileURLToPath(import.meta.url));
 const ROOT = path.dirname(path.dirname(TEST));
 const SHIPPED = ['package.json', 'LICENSE', 'CHANGELOG.md', 'client/README.md', 'client/src', 'client/dist'];
 const OPTIONS = { timeout: 120000 };
+const LONGEST_SCRIPT = 22000; // bytes
 const PROGRAM = `
   const names = (api) => Object.keys(api).filter((name) => name !== 'default').sort().join();
   const same = (one, other) => JSON.stringify(one.cross([{ p: [0], li: 1 }], [{ p: [0], li: 2 }])) ===
@@ -127,6 +129,17 @@ test('the classic script sets the global name only', OPTIONS, () => {
   assert.deepStrictEqual(Object.keys(page).filter((name) => !before.includes(name)), ['Navirotsohy']);
   const state = vm.runInContext('new Navirotsohy.Client("ws://x", { connect: false }).state', page);
   assert.strictEqual(state, 'disconnected');
+});
+
+test('the script for pages has at most 22,000 bytes, minified and by gzip', OPTIONS, (t) => {
+  const minified = run('esbuild', ['--minify', '--charset=utf8', path.join(ROOT, 'client', 'dist', 'navirotsohy.js')], ROOT);
+  if (minified === null) {
+    t.skip('there is no esbuild');
+    return;
+  }
+  const { length } = zlib.gzipSync(minified, { level: 9 });
+  console.log(`package: ${length} bytes`);
+  assert.ok(length <= LONGEST_SCRIPT, `${length} bytes`);
 });
 
 test('eslint finds nothing', OPTIONS, (t) => {

@@ -19,6 +19,15 @@ const ROOT = path.dirname(CLIENT);
 const { version } = JSON.parse(fs.readFileSync(path.join(ROOT, 'package.json'), 'utf8'));
 const BANNER = `/* Navirotsohy ${version}, MIT license. Built from client/src by client/tools/build.js: don't edit. */`;
 
+// The entries of package.json that `require` loads, and their files.
+const MODULES = {
+  'index.js': 'navirotsohy.cjs',
+  'ot/index.js': 'ot.cjs',
+  'difference.js': 'difference.cjs',
+  'undo.js': 'undo.cjs',
+  'bind_text.js': 'bind_text.cjs',
+};
+
 const VERSIONS = { esbuild: '0.17.0', tsc: 'Version 4.8.4' };
 
 function run(command, args) {
@@ -36,8 +45,9 @@ function bundle(entry, outfile, ...more) {
 function buildScripts(folder) {
   const out = (name) => path.join(folder, name);
   if (!bundle('src/index.js', out('navirotsohy.js'), '--format=iife', '--global-name=Navirotsohy')) return false;
-  bundle('src/index.js', out('navirotsohy.cjs'), '--format=cjs', '--platform=neutral');
-  bundle('src/ot/index.js', out('ot.cjs'), '--format=cjs', '--platform=neutral');
+  for (const [entry, name] of Object.entries(MODULES)) {
+    bundle(`src/${entry}`, out(name), '--format=cjs', '--platform=neutral');
+  }
   return true;
 }
 

@@ -152,6 +152,11 @@ export type ClientOptions = {
      */
     freeze?: boolean | undefined;
     /**
+     * false: an edit is sent at once if none is in flight. By default the edits of one tick,
+     * which no `await` separates, are sent together
+     */
+    batch?: boolean | undefined;
+    /**
      * the timers; those of the platform by default
      */
     clock?: Clock | undefined;

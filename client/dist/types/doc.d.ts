@@ -12,6 +12,7 @@ export function coreFor(transport: any, collection: any, id: any): any;
 /** Milliseconds after which a pending edit is reported as waiting. */
 export const PATIENCE: 2000;
 /** @typedef {import('./ot/component.js').Operation} Operation */
+/** @typedef {import('./ot/component.js').Path} Path */
 /**
  * @template T
  * @typedef {import('./ot/component.js').Frozen<T>} Frozen
@@ -52,6 +53,8 @@ export const PATIENCE: 2000;
  * @property {Refusal} error the document can't be subscribed to or fetched
  */
 /** @typedef {{source?: any}} SubmitOptions `source` is any value, which listeners receive */
+/** @typedef {SubmitOptions & {path?: Path}} ChangeOptions `path` leads to the value that is changed */
+/** @typedef {Promise<{version: number | null}>} Submitted the version, or null if there was nothing to store */
 /**
  * A document that is fetched or subscribed to, and edited. `Client.document` returns it.
  * @template [T=any]
@@ -86,10 +89,10 @@ export class Doc<T = any> extends Emitter<DocEvents<T>> {
     get data(): import("./ot/component.js").Frozen<T> | undefined;
     /**
      * A value of `data`, for documents with large objects: `data` copies each object that has changed since it was read.
-     * @param {import('./ot/component.js').Path} path
+     * @param {Path} path
      * @returns {any} undefined if there is none
      */
-    valueAt(path: import('./ot/component.js').Path): any;
+    valueAt(path: import("./ot/component.js").Path): any;
     /**
      * The server's document at `version`, without pending edits.
      * @returns {Frozen<T> | undefined}
@@ -117,7 +120,8 @@ export class Doc<T = any> extends Emitter<DocEvents<T>> {
     get wanted(): boolean;
     set preventCompose(arg: boolean);
     /**
-     * Whether each edit is stored as an operation of its own. Otherwise `submit` joins an edit with one that waits.
+     * Whether each edit is stored as an operation of its own, and sent as soon as possible. Otherwise `submit` joins an
+     * edit with one that waits.
      * @type {boolean}
      */
     get preventCompose(): boolean;
@@ -181,8 +185,9 @@ export class Doc<T = any> extends Emitter<DocEvents<T>> {
      */
     createIfAbsent(data: T): Promise<void>;
     /**
-     * Edits the document. The edit changes `data` at once, and is sent once the one in flight is stored. It is completed
-     * by `data`: `ld` and `od` become the values that are removed.
+     * Edits the document. The edit changes `data` at once. It is sent once the one in flight is stored, together with the
+     * other edits of this tick, which no `await` separates. It is completed by `data`: `ld` and `od` become the values
+     * that are removed.
      * @param {Operation} operation on `data`
      * @param {SubmitOptions} [options]
      * @returns {Promise<{version: number | null}>} the version at which it is stored, null if there was nothing to store.
@@ -192,13 +197,63 @@ export class Doc<T = any> extends Emitter<DocEvents<T>> {
         version: number | null;
     }>;
     /**
-     * Deletes the document.
-     * @param {SubmitOptions} [options]
+     * Deletes the document. `removeAt` removes a value of it.
+     * @param {SubmitOptions} [options] a path is refused
      * @returns {Promise<{version: number}>}
      */
     remove(options?: SubmitOptions | undefined): Promise<{
         version: number;
     }>;
+    /**
+     * Sets a key of an object, or replaces an item of a list. Of concurrent values the one that is stored later stays.
+     * @param {Path} path of the value
+     * @param {any} value
+     * @param {SubmitOptions} [options]
+     * @returns {Submitted}
+     */
+    set(path: import("./ot/component.js").Path, value: any, options?: SubmitOptions | undefined): Submitted;
+    /**
+     * Inserts an item into a list, or a text into a text.
+     * @param {Path} path of the list or text
+     * @param {number} at an index, or an offset in UTF-16 units
+     * @param {any} value an item, or a text
+     * @param {SubmitOptions} [options]
+     * @returns {Submitted}
+     */
+    insert(path: import("./ot/component.js").Path, at: number, value: any, options?: SubmitOptions | undefined): Submitted;
+    /**
+     * Removes a key of an object, or an item of a list.
+     * @param {Path} path of the value
+     * @param {SubmitOptions} [options]
+     * @returns {Submitted}
+     */
+    removeAt(path: import("./ot/component.js").Path, options?: SubmitOptions | undefined): Submitted;
+    /**
+     * Removes items of a list, or a part of a text.
+     * @param {Path} path of the list or text
+     * @param {number} at an index, or an offset in UTF-16 units
+     * @param {number} count of items, or of UTF-16 units
+     * @param {SubmitOptions} [options]
+     * @returns {Submitted}
+     */
+    removeRange(path: import("./ot/component.js").Path, at: number, count: number, options?: SubmitOptions | undefined): Submitted;
+    /**
+     * Adds to a number. Concurrent amounts are all added.
+     * @param {Path} path of the number
+     * @param {number} amount
+     * @param {SubmitOptions} [options]
+     * @returns {Submitted}
+     */
+    add(path: import("./ot/component.js").Path, amount: number, options?: SubmitOptions | undefined): Submitted;
+    /**
+     * Changes the document as the callback changes a copy of it: the smallest operation between them is submitted. It
+     * costs time for each value of the document, or of the part that the option `path` names.
+     * @template [Part=T]
+     * @param {(draft: Part) => unknown} change changes a list or object in place, and returns any other value anew
+     * @param {ChangeOptions} [options]
+     * @returns {Submitted}
+     */
+    change<Part = T>(change: (draft: Part) => unknown, options?: ChangeOptions | undefined): Submitted;
     /**
      * @param {() => void} [listener]
      * @returns {Promise<void>} is fulfilled when nothing is pending
@@ -206,6 +261,7 @@ export class Doc<T = any> extends Emitter<DocEvents<T>> {
     whenNothingPending(listener?: (() => void) | undefined): Promise<void>;
 }
 export type Operation = import('./ot/component.js').Operation;
+export type Path = import('./ot/component.js').Path;
 export type Frozen<T> = import('./ot/component.js').Frozen<T>;
 export type Content = import('./content.js').Content;
 export type DocState = import('./machine.js').State;
@@ -326,5 +382,17 @@ export type DocEvents<T = any> = {
 export type SubmitOptions = {
     source?: any;
 };
+/**
+ * `path` leads to the value that is changed
+ */
+export type ChangeOptions = SubmitOptions & {
+    path?: (string | number)[];
+};
+/**
+ * the version, or null if there was nothing to store
+ */
+export type Submitted = Promise<{
+    version: number | null;
+}>;
 import { Emitter } from "./emitter.js";
 import { Refusal } from "./errors.js";

@@ -43,3 +43,5 @@ export const DEEPEST: 50;
 /** Components of an operation that waiting edits are composed to, and its characters. */
 export const MOST_COMPOSED: 64;
 export const LONGEST_COMPOSED: 65536;
+/** Removed and inserted items up to which two lists are compared by a longest common subsequence. */
+export const MOST_DIFFERENCES: 500;

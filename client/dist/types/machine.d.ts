@@ -2,15 +2,16 @@ export function dataOf(snapshot: any): any;
 export class Machine {
     /**
      * @param {{collection: string, id: string, source: string, nextNumber: () => number, now: () => number,
-     *   freeze?: boolean}} settings
+     *   freeze?: boolean, batch?: boolean}} settings
      */
-    constructor({ collection, id, source, nextNumber, now, freeze }: {
+    constructor({ collection, id, source, nextNumber, now, freeze, batch }: {
         collection: string;
         id: string;
         source: string;
         nextNumber: () => number;
         now: () => number;
         freeze?: boolean;
+        batch?: boolean;
     });
     address: {
         c: string;
@@ -20,6 +21,7 @@ export class Machine {
     nextNumber: () => number;
     now: () => number;
     freeze: boolean;
+    batch: boolean;
     room: number;
     /** @type {State} */
     state: State;
@@ -36,6 +38,7 @@ export class Machine {
     /** @type {Queued[]} */
     queue: Queued[];
     preventCompose: boolean;
+    isHeld: boolean;
     arrived: Map<any, any>;
     fetched: {
         version: any;
@@ -144,6 +147,7 @@ export class Machine {
         source: any;
         waiter: any;
     }): void;
+    hold(): void;
     completed(operation: any): {
         content: {
             op: import("./ot/component.js").Operation;
@@ -154,6 +158,7 @@ export class Machine {
     enqueue(content: any, waiter: any): void;
     textOf(content: any, version: any, seq: any): string;
     sendNext(): void;
+    sendAgain(own: any): void;
     sendFirst({ content, waiters, since }: {
         content: any;
         waiters: any;
@@ -271,4 +276,12 @@ export type Transition = {
      * the version of a snapshot to request, for a `compared` input
      */
     comparison: number | null;
+    /**
+     * of `data`, in their order
+     */
+    changes: import('./observers.js').Change[];
+    /**
+     * whether a `release` input follows once the present tick ends
+     */
+    release: boolean;
 };

@@ -15,5 +15,11 @@ export function firstPart(operation: import("./ot/component.cjs").Operation, roo
  * @returns {Operation}
  */
 export function withShortRemoved(operation: import("./ot/component.cjs").Operation, room: number): import("./ot/component.cjs").Operation;
+/**
+ * The operation with all removed values as null.
+ * @param {Operation} operation
+ * @returns {Operation}
+ */
+export function withoutRemovedValues(operation: import("./ot/component.cjs").Operation): import("./ot/component.cjs").Operation;
 export type Component = import('./ot/component.cjs').Component;
 export type Operation = import('./ot/component.cjs').Operation;

@@ -15,5 +15,11 @@ export function firstPart(operation: import("./ot/component.js").Operation, room
  * @returns {Operation}
  */
 export function withShortRemoved(operation: import("./ot/component.js").Operation, room: number): import("./ot/component.js").Operation;
+/**
+ * The operation with all removed values as null.
+ * @param {Operation} operation
+ * @returns {Operation}
+ */
+export function withoutRemovedValues(operation: import("./ot/component.js").Operation): import("./ot/component.js").Operation;
 export type Component = import('./ot/component.js').Component;
 export type Operation = import('./ot/component.js').Operation;

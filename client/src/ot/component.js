@@ -86,7 +86,13 @@ function isStep(step) {
   return isText(step) || (Number.isSafeInteger(step) && step >= 0);
 }
 
-function readPath(path, place) {
+/**
+ * Copies a path.
+ * @param {any} path
+ * @param {string} place for the message of a refusal
+ * @returns {Path}
+ */
+export function readPath(path, place) {
   if (!Array.isArray(path)) badlyFormed(`${place} has no path p`);
   if (path.length > LONGEST_PATH) badlyFormed(`${place}: the path has ${path.length} steps, at most ${LONGEST_PATH}`);
   const wrong = path.find((step) => !isStep(step));
@@ -153,13 +159,12 @@ export function readData(value, place = 'the data', room = DEEPEST) {
 /**
  * Copies the operation as the server parses it: without other members and without empty texts.
  * @param {unknown} operation
+ * @param {number} [most] components
  * @returns {Operation}
  */
-export function readOperation(operation) {
+export function readOperation(operation, most = MOST_COMPONENTS) {
   if (!Array.isArray(operation)) return badlyFormed(`${spelled(operation)} is no list of components`);
-  if (operation.length > MOST_COMPONENTS) {
-    badlyFormed(`${operation.length} components, at most ${MOST_COMPONENTS}`);
-  }
+  if (operation.length > most) badlyFormed(`${operation.length} components, at most ${most}`);
   const read = /** @type {any[]} */ (Array.from(operation, readComponent));
   return read.filter((component) => component.si !== '' && component.sd !== '');
 }

@@ -30,10 +30,11 @@ export class Net {
     };
   }
 
-  /** Returns a client and its document. */
+  /** Returns a client and its document. It sends an edit at once, if the options don't say otherwise. */
   client(source, options = {}) {
     const { WebSocket, clock } = this;
-    const client = new Client('ws://model', { source, WebSocket, clock, retryDelay: 1, longestDelay: 2, heartbeat: 1e9, freeze: true, ...options });
+    const times = { clock, retryDelay: 1, longestDelay: 2, heartbeat: 1e9 };
+    const client = new Client('ws://model', { source, WebSocket, ...times, freeze: true, batch: false, ...options });
     return { client, doc: client.document('b', '1') };
   }
 

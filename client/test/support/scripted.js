@@ -69,11 +69,12 @@ export function insert(at, text) {
   return [{ p: [at], si: text }];
 }
 
-/** Returns a client that is connected. */
+/** Returns a client that is connected. It sends an edit at once, if the options don't say otherwise. */
 export function started(options = {}) {
   const sockets = scripted();
   const clock = new ManualClock();
-  const settings = { source: 'me', WebSocket: sockets.WebSocket, clock, random: () => 0, heartbeat: 1e9, ...options };
+  const { WebSocket } = sockets;
+  const settings = { source: 'me', WebSocket, clock, random: () => 0, heartbeat: 1e9, batch: false, ...options };
   const client = new Client('ws://test', settings);
   const doc = client.document(ADDRESS.c, ADDRESS.d);
   const events = [];
@@ -96,8 +97,8 @@ export function loaded(data = 'abc', options) {
 }
 
 /** Returns a client that is subscribed to an absent document. */
-export function absent() {
-  const all = started();
+export function absent(options) {
+  const all = started(options);
   all.doc.subscribe();
   all.socket.answer({ a: 's', ...ADDRESS, data: { type: null, v: 0 } });
   all.socket.taken();

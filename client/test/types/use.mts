@@ -1,8 +1,11 @@
 // Compiled by package.test.js: a program that uses each call of the client with its types.
 import { Client, Cluster, Doc, Emitter, Refusal, apply, bucketOf, complete, compose, cross, invert } from 'navirotsohy';
-import { textChange, transformComponent, transformOffset } from 'navirotsohy';
+import { UndoManager, bindText, difference, textChange, transformComponent, transformOffset, transformPosition } from 'navirotsohy';
+import { bindText as bindOnly } from 'navirotsohy/bind-text';
+import { difference as differenceOnly } from 'navirotsohy/difference';
 import { cross as crossOnly } from 'navirotsohy/ot';
-import type { BucketState, Closing, Component, Data, DocEvents, Entry, Frozen, Operation, Snapshot } from 'navirotsohy';
+import { UndoManager as UndoOnly } from 'navirotsohy/undo';
+import type { BucketState, Closing, Component, Data, DocEvents, Entry, Frozen, Operation, Snapshot, TextBinding } from 'navirotsohy';
 
 interface Card {
   title: string;
@@ -66,6 +69,34 @@ export async function main(): Promise<void> {
   if (version !== null) version.toFixed();
   // @ts-expect-error: no such shape
   await board.submit([{ p: ['votes'], lm: 1 }]);
+  const set: { version: number | null } = await board.set(['votes'], 3, { source: board });
+  await board.insert(['cards', 'a', 'title'], 0, 'text', { source: set });
+  await board.removeAt(['cards', 'a'], { source: set });
+  await board.removeRange(['cards', 'a', 'title'], 0, 2, { source: set });
+  await board.add(['votes'], -1, { source: set });
+  await board.change((draft) => { draft.cards.a.title += '!'; delete draft.cards.b; }, { source: set });
+  await board.change((card: Card) => { card.rank = 2; }, { path: ['cards', 'a'] });
+  await board.change((rank: number) => rank + 1, { path: ['cards', 'a', 'rank'] });
+  // @ts-expect-error: not the type of the member
+  await board.change((draft) => { draft.votes = 'many'; });
+  // @ts-expect-error: a path is no option of remove
+  await board.remove(['cards', 'a']);
+  await board.submit(difference(['votes'], 1, 2).concat(differenceOnly(['votes'], 2, [3, { x: null }])));
+  const undos: UndoManager = new UndoManager(board, { groupBy: 0, limit: 5 });
+  undos.on('change', ({ canUndo, canRedo }) => canUndo && canRedo);
+  const undone: { version: number | null } = undos.canUndo ? await undos.undo() : await undos.redo();
+  new UndoOnly(other).clear();
+  const area: HTMLTextAreaElement = document.createElement('textarea');
+  const binding: TextBinding = bindText(area, board, ['cards', 'a', 'title'], { undo: undos, refused: (error) => error.code });
+  binding.unbind();
+  bindOnly(document.createElement('input'), other, ['title']);
+  // @ts-expect-error: no field
+  bindText(document.createElement('div'), board, ['title']);
+  const position: number = transformPosition(1, operation, ['title'], 'right') + transformOffset(1, operation, ['title']);
+  area.setSelectionRange(position, position);
+  undos.stop();
+  // @ts-expect-error: no such option
+  new UndoManager(board, { limits: undone.version });
   const at: Snapshot<Board> = await board.snapshot(3);
   const then: Snapshot<Board> = await board.snapshotAtTime(Date.now());
   const entries: Entry[] = await board.operations(0);

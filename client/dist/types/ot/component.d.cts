@@ -7,6 +7,13 @@ export function containerDepth(component: any, shape: any): any;
 export function withStep(component: any, depth: any, step: any): any;
 export function withLastStep(component: any, step: any): any;
 /**
+ * Copies a path.
+ * @param {any} path
+ * @param {string} place for the message of a refusal
+ * @returns {Path}
+ */
+export function readPath(path: any, place: string): Path;
+/**
  * Copies a value that a document can hold: null, booleans, whole numbers, texts, lists and objects of these.
  * @param {unknown} value
  * @param {string} [place] for the message of a refusal
@@ -17,9 +24,10 @@ export function readData(value: unknown, place?: string | undefined, room?: numb
 /**
  * Copies the operation as the server parses it: without other members and without empty texts.
  * @param {unknown} operation
+ * @param {number} [most] components
  * @returns {Operation}
  */
-export function readOperation(operation: unknown): Operation;
+export function readOperation(operation: unknown, most?: number | undefined): Operation;
 /**
  * Whether a value has at most this many levels.
  * @param {Data} value
