@@ -60,71 +60,6 @@ function fromTemplate(name) {
   return document.getElementById(name).content.firstElementChild.cloneNode(true);
 }
 
-function valueAt(data, path) {
-  return path.reduce((value, step) => (value === undefined ? undefined : value[step]), data);
-}
-
-/**
- * A text field that shows and edits one text of the shared document, at a path. While an input method composes a text,
- * the field is left alone: what is received meanwhile is shown at the end, and the composed text is sent then.
- */
-class TextField {
-  constructor(element, shared, path, refuse) {
-    this.element = element;
-    this.shared = shared;
-    this.path = path;
-    this.refuse = refuse;
-    this.composition = null; // { text, missed }: the text before it, and the operation of all changes since
-    this.isSending = false; // the field's own edit is being submitted
-    element.addEventListener('input', () => this.composition === null && this.send());
-    element.addEventListener('compositionstart', () => (this.composition = { text: element.value, missed: [] }));
-    element.addEventListener('compositionend', () => this.send());
-  }
-
-  get text() {
-    const { data } = this.shared;
-    return data === undefined ? undefined : valueAt(data, this.path);
-  }
-
-  // If the edit is refused, the field shows the document's text again.
-  async send() {
-    const { element, shared, path } = this;
-    const { text, missed } = this.composition || { text: this.text, missed: [] };
-    this.composition = null;
-    if (this.text === undefined) return;
-    const own = Navirotsohy.textChange(path, text, element.value, element.selectionStart);
-    try {
-      const { left, right } = Navirotsohy.cross(own, missed);
-      this.isSending = true;
-      const stored = shared.submit(left);
-      this.isSending = false;
-      this.show(this.text, right);
-      await stored;
-    } catch (error) {
-      this.refuse(error);
-      if (this.text !== undefined) this.show(this.text, null);
-    }
-  }
-
-  /** Shows the text; the caret stays between its two letters. */
-  show(text, operation) {
-    const { element, path, composition } = this;
-    if (this.isSending) return;
-    if (composition !== null) {
-      const { missed } = composition;
-      const whole = () => Navirotsohy.textChange(path, composition.text, text);
-      composition.missed = operation ? Navirotsohy.compose(missed, operation) : whole();
-      return;
-    }
-    if (element.value === text) return;
-    const { selectionStart, selectionEnd, selectionDirection, scrollTop } = element;
-    const moved = (offset) => (operation ? Navirotsohy.transformOffset(offset, operation, path) : offset);
-    element.value = text;
-    element.setSelectionRange(moved(selectionStart), moved(selectionEnd), selectionDirection);
-    element.scrollTop = scrollTop;
-  }
-}
-
 /** One card on the screen. */
 class CardElement {
   constructor(board, id) {
@@ -133,7 +68,8 @@ class CardElement {
     this.element = fromTemplate('card');
     this.done = this.element.querySelector('.done');
     this.vote = this.element.querySelector('.vote');
-    this.title = new TextField(this.element.querySelector('.title'), board.shared, ['cards', id, 'title'], board.refuse);
+    this.title = this.element.querySelector('.title');
+    this.binding = Navirotsohy.bindText(this.title, board.shared, ['cards', id, 'title'], board.options);
     this.listen();
   }
 
@@ -154,17 +90,16 @@ class CardElement {
     const moves = { ArrowLeft: [-1, 0], ArrowRight: [1, 0], ArrowUp: [0, -1], ArrowDown: [0, 1] };
     if (event.altKey && moves[event.key]) this.board.moveBy(this.id, ...moves[event.key]);
     else if (event.altKey && event.key === 'Delete') this.board.remove(this.id);
-    else if (event.key === 'Enter' && event.target === this.title.element) this.board.insertBelow(this.id);
+    else if (event.key === 'Enter' && event.target === this.title) this.board.insertBelow(this.id);
     else return;
     event.preventDefault();
   }
 
   focus() {
-    this.title.element.focus();
+    this.title.focus();
   }
 
-  show(data, operation) {
-    this.title.show(data.title, operation);
+  show(data) {
     this.done.checked = data.done;
     this.vote.textContent = `▲ ${data.votes}`;
     this.element.classList.toggle('ticked', data.done);
@@ -173,10 +108,10 @@ class CardElement {
 
 /** The columns of cards. */
 class Board {
-  constructor(element, shared, refuse) {
+  constructor(element, shared, options) {
     this.element = element;
     this.shared = shared;
-    this.refuse = refuse;
+    this.options = options; // of the titles' bindings
     this.lists = [];
     this.headings = [];
     this.cards = new Map(); // by id
@@ -186,7 +121,7 @@ class Board {
   // Edits ----------------------------------------------------------------------------------------------------
 
   submit(operation) {
-    this.shared.submit(operation).catch(this.refuse);
+    this.shared.submit(operation).catch(this.options.refused);
   }
 
   // Replaces members of a card, each by one component.
@@ -263,27 +198,28 @@ class Board {
 
   // Drawing ------------------------------------------------------------------------------------------------
 
-  show(data, operation) {
+  show(data) {
     while (this.lists.length < data.columns.length) this.addColumn();
     const focused = document.activeElement;
     for (const [id, one] of this.cards) if (!Object.hasOwn(data.cards, id)) this.forget(id, one);
     data.columns.forEach((name, column) => {
       this.headings[column].textContent = name;
       const list = this.lists[column];
-      idsOf(data, column).forEach((id, index) => this.showCard(id, data.cards[id], list, index, operation));
+      idsOf(data, column).forEach((id, index) => this.showCard(id, data.cards[id], list, index));
     });
     if (focused !== document.activeElement) focused.focus({ preventScroll: true });
   }
 
-  showCard(id, data, list, index, operation) {
+  showCard(id, data, list, index) {
     if (!this.cards.has(id)) this.cards.set(id, new CardElement(this, id));
     const one = this.cards.get(id);
-    one.show(data, operation);
+    one.show(data);
     if (list.children[index] !== one.element) list.insertBefore(one.element, list.children[index] || null);
   }
 
   forget(id, one) {
     this.cards.delete(id);
+    one.binding.unbind();
     one.element.remove();
   }
 
@@ -310,9 +246,10 @@ class View {
     this.isWanted = true; // the connection
     this.closing = ''; // why the last one ended
     this.noticeStays = 0; // the time until which it is shown
-    const refuse = (error) => this.showLongNotice(`not stored: ${error.message}`);
-    this.text = new TextField(this.find('textarea'), this.shared, ['text'], refuse);
-    this.board = new Board(this.find('.board'), this.shared, refuse);
+    const refused = (error) => this.showLongNotice(`not stored: ${error.message}`);
+    const options = { undo: new Navirotsohy.UndoManager(this.shared), refused };
+    Navirotsohy.bindText(this.find('textarea'), this.shared, ['text'], options);
+    this.board = new Board(this.find('.board'), this.shared, options);
     this.listen();
     this.showState();
     this.shared.subscribe().catch((error) => this.showNotice(error.message));
@@ -380,8 +317,7 @@ class View {
     this.find('fieldset').disabled = data === undefined;
     if (data === undefined) return;
     if (operation === null) this.find('.version').textContent = version;
-    this.text.show(data.text, operation);
-    this.board.show(data, operation);
+    this.board.show(data);
   }
 }
 
