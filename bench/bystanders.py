@@ -14,12 +14,12 @@ import json
 import multiprocessing
 import pathlib
 import re
-import socket
 import sys
 import time
 
 sys.path.insert(0, str(pathlib.Path(__file__).resolve().parent.parent / "tests"))
 
+from support.frames import NO_MASK, Connection, Fault, frame  # noqa: E402
 from support.server import Server  # noqa: E402
 
 TYPE = "http://sharejs.org/types/JSONv0"
@@ -31,60 +31,24 @@ LONGEST = 300  # seconds for two late operations
 DOCUMENTS = 16
 
 
-class Client:
-    """One session over a WebSocket. Its frames are masked by zeros, so that no mask is computed."""
+class Client(Connection):
+    """A session whose edits have a source. The mask of its messages is zero, so that no mask is computed."""
 
     def __init__(self, port, source):
-        self.socket = socket.create_connection(("127.0.0.1", port))
-        self.socket.setsockopt(socket.IPPROTO_TCP, socket.TCP_NODELAY, 1)
-        self.input = self.socket.makefile("rb", buffering=1 << 20)
+        super().__init__(("127.0.0.1", port), patience=None)
         self.source, self.seq = source, 0
-        self.socket.sendall(
-            b"GET / HTTP/1.1\r\nHost: localhost\r\nUpgrade: websocket\r\nConnection: Upgrade\r\n"
-            b"Sec-WebSocket-Key: AAAAAAAAAAAAAAAAAAAAAA==\r\nSec-WebSocket-Version: 13\r\n\r\n"
-        )
-        while self.input.readline() != b"\r\n":
-            pass
-        self.receive()
+        self.enter()
 
-    def send(self, message):
-        text = json.dumps(message, separators=(",", ":")).encode()
-        if len(text) < 126:
-            head = bytes([0x81, 0x80 | len(text)])
-        elif len(text) < 65_536:
-            head = bytes([0x81, 0xFE]) + len(text).to_bytes(2, "big")
-        else:
-            head = bytes([0x81, 0xFF]) + len(text).to_bytes(8, "big")
-        self.socket.sendall(head + bytes(4) + text)
-
-    def receive(self):
-        """Returns the next text. Its fragments are joined."""
-        fragments = []
-        while True:
-            first, payload = self.read_frame()
-            if first & 15 < 8:
-                fragments.append(payload)
-                if first & 128:
-                    return b"".join(fragments)
-
-    def read_frame(self):
-        head = self.input.read(2)
-        if len(head) < 2:
-            raise EOFError
-        length = head[1]
-        if length == 126:
-            length = int.from_bytes(self.input.read(2), "big")
-        elif length == 127:
-            length = int.from_bytes(self.input.read(8), "big")
-        return head[0], self.input.read(length)
+    def send_message(self, message):
+        self.send(frame(json.dumps(message, separators=(",", ":")).encode(), mask=NO_MASK))
 
     def submit(self, document, **content):
         """Sends an operation and waits for its acknowledgement, after the operations of others."""
         self.seq += 1
-        self.send({"a": "op", "c": "boards", "d": document, "src": self.source, "seq": self.seq, **content})
+        self.send_message({"a": "op", "c": "boards", "d": document, "src": self.source, "seq": self.seq, **content})
         own = re.compile(rb'"seq":%d[,}]' % self.seq)
         while True:
-            text = self.receive()
+            text = self.next_text()
             if b'"error"' in text:
                 raise RuntimeError(text)
             if own.search(text) and f'"src":"{self.source}"'.encode() in text:
@@ -120,7 +84,7 @@ def repeat(port, source, edit, count):
             client.submit("a", **edit)
             with count.get_lock():
                 count.value += 1
-    except (EOFError, OSError):
+    except (EOFError, OSError, Fault):
         pass
 
 

@@ -32,7 +32,7 @@ class Socket {
 }
 
 function loaded(keys) {
-  const client = new Client('ws://none', { source: 'me', WebSocket: Socket });
+  const client = new Client('ws://none', { source: 'me', WebSocket: Socket, batch: false });
   const socket = Socket.last;
   const doc = client.document(ADDRESS.c, ADDRESS.d);
   doc.subscribe();

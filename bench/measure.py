@@ -16,6 +16,7 @@ import time
 from results import Results
 
 HERE = os.path.dirname(os.path.abspath(__file__))
+GENERATE = os.path.join(HERE, "generate.py")
 SERVER = os.path.join(HERE, "..", "crates", "sdb_server_main", "out", "sdb_server_main")
 BENCH = os.path.join(HERE, "..", "crates", "sdb_bench", "out", "sdb_bench")
 RUNS = 15
@@ -32,9 +33,9 @@ def spent(command, path, output=os.devnull):
 
 
 # Measures the server, and what any server must do: read each line as JSON and print each answer (without reading it).
-def compare(title, script, lines, *more):
+def compare(title, kind, lines, *more):
     with tempfile.NamedTemporaryFile("w", suffix=".lines") as made, tempfile.NamedTemporaryFile(suffix=".answers") as answers:
-        subprocess.run([sys.executable, os.path.join(HERE, script), str(lines), *map(str, more)], stdout=made, check=True)
+        subprocess.run([sys.executable, GENERATE, kind, str(lines), *map(str, more)], stdout=made, check=True)
         made.flush()
         spent([SERVER, "--lines"], made.name, answers.name)
         passes = {
@@ -59,10 +60,10 @@ def compare(title, script, lines, *more):
     print(f"  server: {server:.3f} s, {server / lines * 1e6:.2f} microseconds each line; ratio {server / plain:.2f}")
 
 
-# Returns the server's best time over a script's output in seconds, its maximum memory in bytes, and all times.
-def server_over(runs, script, *counts):
+# Returns the server's best time over an input in seconds, its maximum memory in bytes, and all times.
+def server_over(runs, kind, *counts):
     with tempfile.NamedTemporaryFile("w", suffix=".lines") as made:
-        subprocess.run([sys.executable, os.path.join(HERE, script), *map(str, counts)], stdout=made, check=True)
+        subprocess.run([sys.executable, GENERATE, kind, *map(str, counts)], stdout=made, check=True)
         made.flush()
         times, held = [], 0
         for _ in range(runs):
@@ -77,8 +78,8 @@ def server_over(runs, script, *counts):
 
 
 # Returns the time of one of `count` edits, as the difference of the best times with and without them.
-def each_of(title, script, parts, count):
-    with_edits, without = (server_over(5, script, *parts, it) for it in (count, 0))
+def each_of(title, kind, parts, count):
+    with_edits, without = (server_over(5, kind, *parts, it) for it in (count, 0))
     value = (with_edits[0] - without[0]) / count
     RESULTS.add(title, "s", value, [(it - without[0]) / count for it in with_edits[2]])
     return value
@@ -86,12 +87,12 @@ def each_of(title, script, parts, count):
 
 def long_logs():
     few, many = 10_000, 1_000_000
-    short, long = server_over(5, "counts.py", few)[0] / few, server_over(1, "counts.py", many)[0] / many
+    short, long = server_over(5, "counts", few)[0] / few, server_over(1, "counts", many)[0] / many
     RESULTS.add(f"an increment, on a log that grows to {few} entries", "s", short)
     RESULTS.add(f"an increment, on a log that grows to {many} entries", "s", long)
     print(f"each increment of one number, on a log that grows to {few} entries: {short * 1e6:.2f} microseconds")
     print(f"  to {many}: {long * 1e6:.2f} microseconds, ratio {long / short:.2f}")
-    held = server_over(1, "trace.py", many)[1] - server_over(1, "trace.py", few)[1]
+    held = server_over(1, "trace", many)[1] - server_over(1, "trace", few)[1]
     RESULTS.add("memory of an insert", "bytes", held / (many - few))
     print(f"memory for each insert of a character by 8 sources: {held / (many - few):.0f} bytes")
 
@@ -99,7 +100,7 @@ def long_logs():
 def pairs():
     edits = 1000
     title = "an edit of two components, in a document of {} KB"
-    small, large = (each_of(title.format(size), "pairs.py", [size], edits) for size in (100, 10_000))
+    small, large = (each_of(title.format(size), "pairs", [size], edits) for size in (100, 10_000))
     print(f"an edit of two components in a text of 1 KB, in a document of 100 KB: {small * 1e6:.0f} microseconds")
     print(f"  of 10 MB: {large * 1e6:.0f} microseconds, ratio {large / small:.2f}")
 
@@ -107,15 +108,15 @@ def pairs():
 def places():
     edits = 5_000
     for kind, sizes in (("text", (10_000, 1_000_000)), ("list", (500, 50_000)), ("object", (500, 50_000))):
-        small, large = (each_of(f"a session's edit of a {kind} of {size}", "places.py", [kind, size], edits) for size in sizes)
+        small, large = (each_of(f"a session's edit of a {kind} of {size}", "places", [kind, size], edits) for size in sizes)
         print(f"an edit by a session of a {kind} of {sizes[0]}: {small * 1e6:.1f} microseconds, of {sizes[1]}: {large * 1e6:.1f}")
 
 
 def snapshots():
     entries, reads = 100_000, 10_000
-    alone = server_over(5, "snapshots.py", entries, 0, 0)[0]
-    present, near = ((server_over(5, "snapshots.py", entries, reads, back)[0] - alone) / reads for back in (0, 1000))
-    far = server_over(5, "snapshots.py", entries, 1, entries)[0] - alone
+    alone = server_over(5, "snapshots", entries, 0, 0)[0]
+    present, near = ((server_over(5, "snapshots", entries, reads, back)[0] - alone) / reads for back in (0, 1000))
+    far = server_over(5, "snapshots", entries, 1, entries)[0] - alone
     for title, value in (("the current version", present), ("one of the last 1,000 versions", near), ("any version", far)):
         RESULTS.add(f"a read of {title}, on a log of {entries} entries", "s", value)
     print(f"a document at the present version of a log of {entries} entries: {present * 1e6:.1f} microseconds")
@@ -125,9 +126,9 @@ def snapshots():
 def subscriptions():
     lines = 100_000
     for subscribed in (0, 64):
-        compare(f"64 documents, {subscribed} of them subscribed to", "subscriptions.py", lines, subscribed, 0)
+        compare(f"64 documents, {subscribed} of them subscribed to", "subscriptions", lines, subscribed, 0)
     for subscribed in (0, 64):
-        idle = server_over(5, "subscriptions.py", 0, subscribed, lines)[0] - server_over(5, "subscriptions.py", 0, subscribed, 0)[0]
+        idle = server_over(5, "subscriptions", 0, subscribed, lines)[0] - server_over(5, "subscriptions", 0, subscribed, 0)[0]
         print(f"a line after which nothing waits in {subscribed} subscriptions: {idle / lines * 1e6:.2f} microseconds")
 
 
@@ -173,10 +174,10 @@ def calls():
 
 
 def main(words):
-    compare("1,000 documents", "lines.py", 100_000)
-    compare("one text, 8 sources, base versions up to 8 old", "trace.py", 100_000)
-    compare("one number", "counts.py", 100_000)
-    compare("one board, 8 sources, base versions up to 8 old", "boards.py", 100_000)
+    compare("1,000 documents", "lines", 100_000)
+    compare("one text, 8 sources, base versions up to 8 old", "trace", 100_000)
+    compare("one number", "counts", 100_000)
+    compare("one board, 8 sources, base versions up to 8 old", "boards", 100_000)
     subscriptions()
     long_logs()
     pairs()

@@ -23,7 +23,7 @@ def request_all(clients, size):
     start = time.perf_counter()
     with selectors.DefaultSelector() as waiting:
         for client in clients:
-            client.send({"a": "f", "c": "boards", "d": "large"})
+            client.send_message({"a": "f", "c": "boards", "d": "large"})
             waiting.register(client.socket, selectors.EVENT_READ, [client, size])
         while waiting.get_map():
             for key, _ in waiting.select():
