@@ -1,5 +1,6 @@
 """The archive of examples/deploy/package: its files, their links, and the difference of an unproved program's."""
 import hashlib
+import json
 import os
 import pathlib
 import re
@@ -11,7 +12,7 @@ import pytest
 
 from support.archive import make_archive
 from support.frames import Connection
-from support.server import END, ROOT
+from support.server import END, ROOT, UNPROVED
 
 DOCUMENTS = ["LICENSE", "README.md", "CHANGELOG.md", "docs/OPERATION.md", "docs/PROTOCOL.md", "docs/SCALING.md"]
 DROP_INS = ["sdb_server.service.d/unproved.conf", "cluster/navirotsohy@.service.d/unproved.conf"]
@@ -87,9 +88,23 @@ def test_sums(made, place):
     assert sums == {name: hashlib.sha256(file.read_bytes()).hexdigest() for name, file in files.items()}
 
 
+def printed_by(program, option):
+    return subprocess.run([program, option], capture_output=True, text=True, check=True).stdout
+
+
+def test_one_version(program):
+    """The program, the package of the client, README and the change log have one version. An unproved program says so."""
+    is_unproved = program == str(UNPROVED)
+    version = json.loads((ROOT / "package.json").read_text())["version"]
+    assert printed_by(program, "--version") == f"sdb_server {version}{'-unproved' if is_unproved else ''}\n"
+    assert ("not proved" in printed_by(program, "--help")) == is_unproved
+    assert f"Version {version}," in (ROOT / "README.md").read_text()
+    assert re.search(r"(?m)^## (\S+?),? ", (ROOT / "CHANGELOG.md").read_text())[1] == version
+
+
 def test_an_unproved_program_has_another_name_and_version(made, place, program):
     _, is_unproved = made
-    printed = subprocess.run([program, "--version"], capture_output=True, text=True, check=True).stdout.split()[-1]
+    printed = printed_by(program, "--version").split()[-1].removesuffix("-unproved")
     assert place.name.startswith(f"navirotsohy-unproved-{printed}-" if is_unproved else f"navirotsohy-{printed}-")
     assert (place / "VERSION").read_text() == (f"{printed}-unproved\n" if is_unproved else f"{printed}\n")
     assert [(place / it).exists() for it in DROP_INS] == [is_unproved] * 2

@@ -156,3 +156,23 @@ def test_the_log_has_the_address_that_a_proxy_forwards(program):
     assert 'source "s1", peer 127.0.0.1:' in logged(program, fields=forwarded)
     for fields in ["", "X-Forwarded-For: unknown\r\n"]:
         assert 'source "s1", peer 127.0.0.1:' in logged(program, "--proxy", fields=fields)
+
+
+def test_memory_above_its_limit(program, tmp_path):
+    """The server starts with what is stored, and answers reads and duplicates. It stores nothing."""
+    options = ["--until-eof", "--store", tmp_path / "store"]
+    with Server(program, *options, "--memory", "1000000") as server, server.enter() as client:
+        assert client.ask(CREATE)["v"] == 0
+        assert json.loads(fetch(server, "/health")[2])["storing"] is True
+        assert metrics(server)["navirotsohy_storing"] == 1
+        server.stop()
+    with Server(program, *options, "--memory", "1") as server, server.enter() as client:
+        wait_until(lambda: json.loads(fetch(server, "/health")[2])["storing"] is False)
+        assert metrics(server)["navirotsohy_storing"] == 0 and metrics(server)["navirotsohy_memory_limit_bytes"] == 1_048_576
+        assert client.ask(EDIT)["error"]["code"] == "ERR_OUT_OF_MEMORY"
+        assert client.ask({"a": "f", "c": "b", "d": "1"})["data"] == {"v": 1, "data": {"n": 1}}
+        assert client.ask(CREATE)["v"] == 0
+        server.stop()
+    with Server(program, *options) as server, server.enter() as client:
+        assert client.ask(EDIT)["v"] == 1
+        assert "storing" not in json.loads(fetch(server, "/health")[2])

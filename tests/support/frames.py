@@ -1,4 +1,4 @@
-"""WebSocket frames and handshakes, byte by byte, for tests that break the rules."""
+"""WebSocket frames, handshakes and connections, byte by byte, for measurements and for tests that break the rules."""
 import base64
 import json
 import os
@@ -10,6 +10,7 @@ CONTINUATION, TEXT, BINARY, CLOSE, PING, PONG = 0, 1, 2, 8, 9, 10
 NO_STATUS = None  # of a connection that is closed without a close frame
 PATIENCE = 300  # seconds for an answer: a bound for tests that would hang
 TRY_AGAIN = 1013
+NO_MASK = bytes(4)  # leaves each byte as it is
 HEAD = "GET / HTTP/1.1\r\nHost: localhost\r\nUpgrade: websocket\r\nConnection: Upgrade\r\nSec-WebSocket-Version: 13\r\n"
 
 
@@ -25,8 +26,8 @@ def handshake():
     return f"{HEAD}Sec-WebSocket-Key: {base64.b64encode(os.urandom(16)).decode()}\r\n\r\n".encode()
 
 
-def frame(payload, kind=TEXT, last=True, length=None):
-    """Returns a masked frame, with another length in its head if one is given."""
+def frame(payload, kind=TEXT, last=True, length=None, mask=None):
+    """Returns a masked frame, with another length in its head if one is given. The mask is random if none is given."""
     length = len(payload) if length is None else length
     first = bytes([kind | (0x80 if last else 0)])
     if length < 126:
@@ -35,8 +36,8 @@ def frame(payload, kind=TEXT, last=True, length=None):
         head = first + struct.pack(">BH", 0xFE, length)
     else:
         head = first + struct.pack(">BQ", 0xFF, length)
-    mask = os.urandom(4)
-    return head + mask + masked(payload, mask)
+    mask = mask or os.urandom(4)
+    return head + mask + (payload if mask == NO_MASK else masked(payload, mask))
 
 
 def masked(payload, mask):
@@ -53,10 +54,12 @@ def status_of(payload):
 
 
 class Connection:
+    """A connection of a client. With no patience it waits for an answer without an end."""
+
     def __init__(self, address, patience=PATIENCE):
         self.socket = socket.create_connection(address, patience)
         self.socket.setsockopt(socket.IPPROTO_TCP, socket.TCP_NODELAY, 1)
-        self.received = b""
+        self.received = bytearray()
         self.kind, self.fragments = None, []  # of a message of which the last fragment wasn't read
 
     def __enter__(self):
@@ -77,14 +80,16 @@ class Connection:
     def read(self, count):
         while len(self.received) < count:
             self.read_more()
-        first, self.received = self.received[:count], self.received[count:]
+        with memoryview(self.received) as received:
+            first = received[:count].tobytes()
+        del self.received[:count]
         return first
 
     def upgrade(self):
         self.send(handshake())
         while b"\r\n\r\n" not in self.received:
             self.read_more()
-        head, self.received = self.received.split(b"\r\n\r\n", 1)
+        head = self.read(self.received.index(b"\r\n\r\n") + 4)
         if not head.startswith(b"HTTP/1.1 101 "):
             raise Fault(f"a handshake is answered {head[:40]}")
         return head
@@ -124,10 +129,13 @@ class Connection:
 
     def message(self):
         """Returns the next text as JSON."""
+        return json.loads(self.next_text())
+
+    def next_text(self):
         while True:
             kind, payload = self.frame()
             if kind == TEXT:
-                return json.loads(payload)
+                return payload
             if kind == CLOSE:
                 raise Fault(f"the connection is closed with {status_of(payload)}")
             if kind == PING:

@@ -8,7 +8,7 @@ import threading
 from .frames import Connection
 
 ROOT = pathlib.Path(__file__).resolve().parent.parent.parent
-PROVED = ROOT / "crates" / "sdb_server_main" / "out" / "sdb_server_main"
+PROVED = ROOT / "out" / "sdb_server"
 UNPROVED = ROOT / "out" / "unproved" / "sdb_server"
 START = 60  # seconds until the server must listen
 END = 30  # seconds until the server must end after the end of its input
