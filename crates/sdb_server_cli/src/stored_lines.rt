@@ -150,6 +150,7 @@ impl<R: Wait + std::time::Clock + Drop, W: LineWriter, O: Write> SavingWriter<'_
             writer,
             ..
         } = self;
+        writer.check()?;
         saver.save_round(*backend, writer, *number)
     }
 }

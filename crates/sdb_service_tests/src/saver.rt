@@ -7,6 +7,7 @@ use sdb_store::{LineWriter, RoundListener, SaveFault, Saver, WriteFault, save_un
 #[derive(Drop)]
 struct RequestingWriter<'a> {
     progress: &'a SaveProgress,
+    is_moved: bool,
     group: Vec<Vec<u8>>,
     ticket: Option<Ticket>,
 }
@@ -19,7 +20,11 @@ impl LineWriter for RequestingWriter<'_> {
     ghost has_lines = { λ _ _. ⊤ };
 
     fn check(&self) -> Result<(), WriteFault> {
-        Ok(())
+        if self.is_moved {
+            Err(WriteFault::Moved)
+        } else {
+            Ok(())
+        }
     }
 
     fn take_written(&mut self) -> Option<u64> {
@@ -52,6 +57,7 @@ fn the_last_round_is_saved(rt: HostRuntime) {
     let progress = SaveProgress::new(0);
     let mut writer = RequestingWriter {
         progress: &progress,
+        is_moved: false,
         group: Vec::new(alloc),
         ticket: None,
     };
@@ -72,4 +78,32 @@ fn the_last_round_is_saved(rt: HostRuntime) {
     let line = writer.group.first().expect(&rt, "a line");
     assert!(rt; line.as_slice() == br#"{"given":1024}"#.as_slice());
     assert!(rt; progress.reserve_number(1_024) && !progress.reserve_number(1_025));
+}
+
+// Nothing is written.
+#[test]
+fn a_moved_journal_ends_the_rounds(rt: HostRuntime) {
+    let alloc = rt.alloc();
+    let (backend, mut host) = Backend::new(alloc, rt).expect(&rt, "out of memory");
+    let mut pass = backend.enter(&mut host).expect(&rt, "a pass");
+    backend.list_unsaved(&mut pass);
+    let mut saver = Saver::new(alloc, pass, 0);
+    let progress = SaveProgress::new(0);
+    let mut writer = RequestingWriter {
+        progress: &progress,
+        is_moved: true,
+        group: Vec::new(alloc),
+        ticket: None,
+    };
+    assert!(rt; !progress.reserve_number(1));
+    let saved = save_until_closed(
+        &rt,
+        &backend,
+        &mut saver,
+        &mut writer,
+        &progress,
+        &NoListener,
+    );
+    assert!(rt; saved == Err(SaveFault::Moved) && progress.is_over());
+    assert!(rt; writer.ticket.is_none() && !progress.reserve_number(1));
 }

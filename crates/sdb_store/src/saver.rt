@@ -119,7 +119,7 @@ impl Saver {
     ///
     /// # Errors
     ///
-    /// [`SaveFault::Retry`], [`SaveFault::Closed`] or [`SaveFault::Moved`] if the writer fails,
+    /// [`SaveFault::Retry`] or [`SaveFault::Closed`] if the writer fails,
     /// [`SaveFault::OutOfMemory`] if an allocation fails, [`SaveFault::Incomplete`] if the backend doesn't
     /// list its entries, and [`SaveFault::OutOfNumbers`] if a journal can't have the number.
     pub fn save_round<R: Wait + Drop, W: LineWriter>(
@@ -233,7 +233,6 @@ impl Saver {
             ⊎ IsIn (number_line (reserved_number self.new)) (unwritten_lines self.old))) }
         ensures unchanged_on_err { OnErr result (self.new ≡ self.old) }
     {
-        writer.check()?;
         if self.group.is_empty() {
             return Ok(());
         }

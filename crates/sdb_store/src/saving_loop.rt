@@ -2,7 +2,7 @@
 ghost use Rattle.sdb_backend.specs.PassModel.{IsPassOfBackend};
 ghost use Rattle.sdb_store.specs.SaverModel.{saver_pass};
 
-use crate::line_writer::LineWriter;
+use crate::line_writer::{LineWriter, WriteFault};
 use crate::saver::{SaveFault, Saver};
 use sdb_backend::Backend;
 use sdb_progress::SaveProgress;
@@ -10,7 +10,7 @@ use std::sync::Wait;
 use std::thread;
 use std::time::{Clock, Duration, Instant};
 
-// Longest pause in seconds between two rounds.
+// Longest pause in seconds between two rounds, and between two checks of the journal's place.
 const PAUSE_SECONDS: u64 = 1;
 
 // Seconds for which a last round that fails is repeated.
@@ -23,7 +23,8 @@ pub trait RoundListener {
 }
 
 /// Saves what the backend lists, in rounds, until the progress is closed and a last round is
-/// committed. A round that fails is repeated after a second; a last one for some seconds.
+/// committed. A round that fails is repeated after a second; a last one for some seconds. Once a
+/// second a round first checks that the journal is where it was.
 ///
 /// # Errors
 ///
@@ -40,10 +41,10 @@ pub fn save_until_closed<R: Wait + Clock + Drop, W: LineWriter, L: RoundListener
     requires { IsPassOfBackend (saver_pass saver.old) backend.now }
     ensures { IsPassOfBackend (saver_pass saver.new) backend.now }
 {
-    let mut closing_since = None;
+    let (mut closing_since, mut checked) = (None, None);
     for _ in rt.forever() {
         let is_last = progress.is_closing();
-        let saved = save_once(rt, backend, saver, writer, progress);
+        let saved = save_once(rt, backend, saver, writer, progress, &mut checked);
         if is_end(saved, is_last, is_last && is_late(rt, &mut closing_since)) {
             progress.end();
             listener.notify(saved);
@@ -55,17 +56,35 @@ pub fn save_until_closed<R: Wait + Clock + Drop, W: LineWriter, L: RoundListener
     unreachable!()
 }
 
-// Makes one round.
+// Checks that the journal is where it was, if the last check was a second ago.
+fn check_place<R: Clock, W: LineWriter>(
+    rt: &R,
+    writer: &W,
+    checked: &mut Option<Instant>,
+) -> Result<(), WriteFault> {
+    let now = Instant::now(rt).ok();
+    if let (Some(last), Some(now)) = (*checked, now)
+        && now.saturating_duration_since(last) < Duration::from_secs(PAUSE_SECONDS)
+    {
+        return Ok(());
+    }
+    *checked = now;
+    writer.check()
+}
+
+// Makes one round. The journal's place is checked first, if the last check was a second ago.
 fn save_once<R: Wait + Clock + Drop, W: LineWriter>(
     rt: &R,
     backend: &Backend<R>,
     saver: &mut Saver,
     writer: &mut W,
     progress: &SaveProgress,
+    checked: &mut Option<Instant>,
 ) -> Result<(), SaveFault>
     requires { IsPassOfBackend (saver_pass saver.old) backend.now }
     ensures { IsPassOfBackend (saver_pass saver.new) backend.now }
 {
+    check_place(rt, writer, checked)?;
     let round = progress.begin_round();
     let start = Instant::now(rt).ok();
     saver.save_round(backend, writer, progress.requested_number())?;
