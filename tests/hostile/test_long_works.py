@@ -7,8 +7,8 @@ from support.server import Server
 TYPE = "http://sharejs.org/types/JSONv0"
 COMPONENTS = 256  # of an operation, at most
 LONG_TEXT = "a" * 10_000
-SPLITS = 24  # edits whose inserts split a deletion beyond the bound
-ENTRIES = 60  # an edit of 256 components meets 4 million pairs with them
+SPLITS = 8  # edits whose inserts split a deletion beyond the bound
+ENTRIES = 28  # an edit of 256 components meets 1.8 million pairs with them
 CLIENTS = 40
 REFUSED = "ERR_OUT_OF_MEMORY"
 

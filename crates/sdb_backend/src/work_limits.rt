@@ -9,7 +9,7 @@ use std::sync::atomic::{AtomicBool, AtomicU64, Ordering};
 pub(crate) const SHORT_REBASE: usize = 65_536;
 
 /// Greatest number of pairs of components that a rebase meets.
-pub(crate) const LONG_REBASE: usize = 16_777_216;
+pub(crate) const LONG_REBASE: usize = 2_097_152;
 
 /// Greatest number of components that a replay applies without a place.
 pub(crate) const SHORT_REPLAY: usize = 16_384;

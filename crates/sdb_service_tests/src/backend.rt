@@ -255,8 +255,8 @@ fn a_full_backend_stores_nothing(rt: HostRuntime) {
     assert!(rt; fetch_counter(&rt, &backend, &mut pass, &key) == Some(1));
 }
 
-// Each insert splits the deletion of 6,000 units once more, so 24 edits of 256 inserts are above
-// 16,777,216 pairs. A smaller deletion is stored.
+// Each insert splits the deletion of 6,000 units once more, so 8 edits of 256 inserts are above
+// 2,097,152 pairs. A smaller deletion is stored.
 #[test]
 fn a_rebase_of_too_many_pairs_is_refused(rt: HostRuntime) {
     let alloc = rt.alloc();
@@ -270,17 +270,17 @@ fn a_rebase_of_too_many_pairs_is_refused(rt: HostRuntime) {
     let created = content(&rt, alloc, repeated(&rt, alloc, create, 6_000).as_str());
     store(&rt, alloc, &backend, &mut pass, &key, 1, created);
     let first = r#"{"op":[{"p":[100],"si":"b"}"#;
-    for seq in 2..=25 {
+    for seq in 2..=9 {
         let inserts = long_edit(&rt, alloc, first, r#",{"p":[100],"si":"b"}"#, 255);
         store(&rt, alloc, &backend, &mut pass, &key, seq, inserts);
     }
     let delete = (r#"{"op":[{"p":[0],"sd":""#, "a", r#""}]}"#);
     let long = content(&rt, alloc, repeated(&rt, alloc, delete, 6_000).as_str());
-    let long = reply_to(&rt, alloc, &backend, &mut pass, &key, 26, (Some(1), long));
+    let long = reply_to(&rt, alloc, &backend, &mut pass, &key, 10, (Some(1), long));
     let short = content(&rt, alloc, repeated(&rt, alloc, delete, 50).as_str());
-    let short = reply_to(&rt, alloc, &backend, &mut pass, &key, 26, (Some(1), short));
+    let short = reply_to(&rt, alloc, &backend, &mut pass, &key, 10, (Some(1), short));
     assert!(rt; matches!(long, Reply::Refused(Code::E10)));
-    assert!(rt; stored_version(&short) == Some((25, 24)));
+    assert!(rt; stored_version(&short) == Some((9, 8)));
 }
 
 // Submits this content at the current version, at a moment with the seq as milliseconds.
