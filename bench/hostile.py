@@ -2,27 +2,31 @@
 
 CLIENTS clients, 40 without it, do each of these at once, without a pause:
 
-- late: sends an operation of 256 components with the base version 1 to a document with 60 operations of 256 components;
-- split: deletes a text of 400,000 units with the base version 1, into which 4,096 inserts fell;
+- late: sends an operation of 256 components that missed 30 operations of 256 components, to a document of its own;
+- split: inserts a text into a document of its own, inserts into it 1,792 times, and deletes it with the base version before that;
 - replay: reads old versions of a document with 30,000 operations;
-- last: as late, while another client edits the same document.
+- last: as late, to one document, which another client edits with operations of 256 components;
+- short: sends an operation of 256 components that missed one of 256 components, to a document of its own.
 
-Meanwhile one client edits sixteen other documents in turn, one connects anew, and one sends edits of one component with the base
-version 1 to a document with 60 operations of 256 components. For each it prints the middle and the slowest, first without the
-hostile clients. An answer with ERR_OUT_OF_MEMORY counts as one, and is counted too.
+Each of these edits but the last is near the bound of what the server transforms. Meanwhile one client edits sixteen other documents in turn,
+one connects anew, and one sends edits of one component with the base version 1 to a document with 60 operations of 256 components.
+For each it prints the middle and the slowest, first without the hostile clients. An answer with ERR_OUT_OF_MEMORY counts as one,
+and is counted too. The hostile clients have the lowest priority, since they would be other machines.
 
 SERVER is the program of the server. It is started at a port of its own and stopped at the end."""
 import multiprocessing
+import os
 import sys
 import time
 
-from bystanders import TYPE, Client, Fault, Server, long_edit, report
+from bystanders import COMPONENTS, TYPE, Client, Fault, Server, long_edit, report
 
 HOSTILE = 40
 DOCUMENTS = 16
-ENTRIES = 60
-INSERTS = 4_096
-TEXT = "a" * 400_000
+ENTRIES = 60  # of the document with honest late edits
+MISSED = 30  # by a hostile edit
+INSERTS = 1_792
+TEXT = "a" * 2 * INSERTS
 REPLAYED = 30_000
 BATCH = 500
 SECONDS = 20
@@ -48,26 +52,43 @@ def store(client, document, count, edit):
             assert b'"error"' not in client.next_text()
 
 
-def prepare(port):
+def prepare(port, clients):
     author = Client(port, "author")
     for number in range(DOCUMENTS):
         author.submit(f"b{number}", create={"type": TYPE, "data": {"n": 0}})
-    for document in ("late", "honest"):
+    counts = {"honest": ENTRIES, "last": MISSED}
+    counts.update((f"late{number}", MISSED) for number in range(clients))
+    counts.update((f"short{number}", 1) for number in range(clients))
+    for document, count in counts.items():
         author.submit(document, create={"type": TYPE, "data": {"t": "", "n": 0}})
-        store(author, document, ENTRIES, long_edit())
-    author.submit("split", create={"type": TYPE, "data": TEXT})
-    for first in range(0, INSERTS, 256):
-        author.submit("split", op=[{"p": [2 * it], "si": "b"} for it in range(first, first + 256)])
+        store(author, document, count, long_edit())
+    for number in range(clients):
+        author.submit(f"split{number}", create={"type": TYPE, "data": {"t": ""}})
     author.submit("replay", create={"type": TYPE, "data": {"n": 0}})
     store(author, "replay", REPLAYED, [{"p": ["n"], "na": 1}])
 
 
-def late(client, _):
-    return answer_of(client, "late", v=1, op=long_edit())
+def late(client, number):
+    code = answer_of(client, f"late{number}", v=client.base, op=long_edit())
+    client.base += code is None
+    return code
 
 
-def split(client, _):
-    return answer_of(client, "split", v=1, op=[{"p": [0], "sd": TEXT}])
+def short(client, number):
+    code = answer_of(client, f"short{number}", v=client.base, op=long_edit())
+    client.base += code is None
+    return code
+
+
+def split(client, number):
+    document = f"split{number}"
+    client.submit(document, op=[{"p": ["t", 0], "si": TEXT}])
+    base = client.base + 1
+    for first in range(0, INSERTS, COMPONENTS):
+        client.submit(document, op=[{"p": ["t", 2 * it], "si": "b"} for it in range(first, first + COMPONENTS)])
+    code = answer_of(client, document, v=base, op=[{"p": ["t", 0], "sd": TEXT}])
+    client.base = base + INSERTS // COMPONENTS + (code is None)
+    return code
 
 
 def replay(client, number):
@@ -77,12 +98,16 @@ def replay(client, number):
 
 def last(client, number):
     if number == 0:
-        return answer_of(client, "late", op=[{"p": ["n"], "na": 1}])
-    return late(client, number)
+        return answer_of(client, "last", op=long_edit())
+    client.send_message({"a": "nf", "id": number, "c": "boards", "d": "last", "v": None})
+    present = client.message()["v"]
+    return answer_of(client, "last", v=present - MISSED, op=long_edit())
 
 
 def attack(port, kind, number, counts):
+    os.nice(19)
     client = Client(port, f"{kind.__name__}-{number}")
+    client.base = 1
     try:
         while True:
             code = kind(client, number)
@@ -117,9 +142,9 @@ def measure(port, name):
 def main(program, clients=HOSTILE):
     with Server(program, "--clients", str(6 * clients + 16)) as server:
         port = server.address[1]
-        prepare(port)
+        prepare(port, clients)
         measure(port, "alone")
-        for kinds in ([late], [split], [replay], [last], [late, split, replay, last]):
+        for kinds in ([late], [split], [replay], [last], [short], [late, split, replay, last]):
             counts = [multiprocessing.Array("q", 2) for _ in kinds]
             loads = [(port, kind, number, count) for kind, count in zip(kinds, counts) for number in range(clients)]
             others = [multiprocessing.Process(target=attack, daemon=True, args=load) for load in loads]

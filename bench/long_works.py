@@ -1,18 +1,19 @@
 """Measures how long one long edit takes: long_works.py SERVER
 
-One client sends edits with the base version 1: of one component and of 256 to documents with 15, 60 and 250 operations of 256
-components, and a deletion of a text of 400,000 units into which 1,024 or 4,096 inserts fell. It prints the milliseconds until each
-is stored, with the answer's missed operations, and how many pairs of components that takes at most.
+One client sends edits with the base version 1: of one component and of 256 to documents with 15, 30 and 250 operations of 256
+components, and a deletion of a text of 400,000 units into which 1,024, 1,792 or 4,096 inserts fell. It prints the milliseconds
+until each is stored, with the answer's missed operations, or the code of its refusal, and how many pairs of components it meets.
 
 SERVER is the program of the server. It is started at a port of its own and stopped at the end."""
 import sys
 import time
 
 from bystanders import COMPONENTS, TYPE, Client, Server, long_edit
-from hostile import TEXT, answer_of, store
+from hostile import answer_of, store
 
-ENTRIES = (15, 60, 250)
-INSERTS = (1_024, 4_096)
+ENTRIES = (15, 30, 250)
+INSERTS = (1_024, 1_792, 4_096)
+TEXT = "a" * 400_000
 
 
 def measure(title, client, document, operation):
