@@ -6,9 +6,9 @@ CLIENTS clients, 40 without it, do each of these at once, without a pause:
 - split: inserts a text into a document of its own, inserts into it 1,792 times, and deletes it with the base version before that;
 - replay: reads old versions of a document with 30,000 operations;
 - last: as late, to one document, which another client edits with operations of 256 components;
-- short: sends an operation of 256 components that missed one of 256 components, to a document of its own.
+- short: sends an operation of 128 components that missed one of 128 components, to a document of its own.
 
-Each of these edits but the last is near the bound of what the server transforms. Meanwhile one client edits sixteen other documents in turn,
+The first ones are near the bound of what the server transforms, the last near that of what it transforms without a place. Meanwhile one client edits sixteen other documents in turn,
 one connects anew, and one sends edits of one component with the base version 1 to a document with 60 operations of 256 components.
 For each it prints the middle and the slowest, first without the hostile clients. An answer with ERR_OUT_OF_MEMORY counts as one,
 and is counted too. The hostile clients have the lowest priority, since they would be other machines.
@@ -25,6 +25,7 @@ HOSTILE = 40
 DOCUMENTS = 16
 ENTRIES = 60  # of the document with honest late edits
 MISSED = 30  # by a hostile edit
+SHORT = 128  # components of a short one
 INSERTS = 1_792
 TEXT = "a" * 2 * INSERTS
 REPLAYED = 30_000
@@ -56,12 +57,12 @@ def prepare(port, clients):
     author = Client(port, "author")
     for number in range(DOCUMENTS):
         author.submit(f"b{number}", create={"type": TYPE, "data": {"n": 0}})
-    counts = {"honest": ENTRIES, "last": MISSED}
-    counts.update((f"late{number}", MISSED) for number in range(clients))
-    counts.update((f"short{number}", 1) for number in range(clients))
-    for document, count in counts.items():
+    edits = {"honest": (ENTRIES, long_edit()), "last": (MISSED, long_edit())}
+    edits.update((f"late{number}", (MISSED, long_edit())) for number in range(clients))
+    edits.update((f"short{number}", (1, long_edit()[:SHORT])) for number in range(clients))
+    for document, (count, edit) in edits.items():
         author.submit(document, create={"type": TYPE, "data": {"t": "", "n": 0}})
-        store(author, document, count, long_edit())
+        store(author, document, count, edit)
     for number in range(clients):
         author.submit(f"split{number}", create={"type": TYPE, "data": {"t": ""}})
     author.submit("replay", create={"type": TYPE, "data": {"n": 0}})
@@ -75,7 +76,7 @@ def late(client, number):
 
 
 def short(client, number):
-    code = answer_of(client, f"short{number}", v=client.base, op=long_edit())
+    code = answer_of(client, f"short{number}", v=client.base, op=long_edit()[:SHORT])
     client.base += code is None
     return code
 

@@ -29,7 +29,7 @@ use std::sync::Wait;
 /// pass has observed. Each call but `by`, `work` and `resume_work` waits until the lock of its shard
 /// is free. A call that doesn't decide holds the lock only while it copies its result.
 ///
-/// A rebase above 65,536 pairs of components and a replay above 16,384 components take one of four
+/// A rebase above 16,384 pairs of components and a replay above 16,384 components take one of four
 /// places. A rebase without a place, or above 2,097,152 pairs, is refused, so its submission is
 /// answered E10 unless 16,384 pairs suffice. So is a read whose replay finds no place.
 impl<R: Wait + Drop> Desk for Backend<R> {

@@ -6,7 +6,7 @@
 use std::sync::atomic::{AtomicBool, AtomicU64, Ordering};
 
 /// Greatest number of pairs of components that a rebase meets without a place.
-pub(crate) const SHORT_REBASE: usize = 65_536;
+pub(crate) const SHORT_REBASE: usize = 16_384;
 
 /// Greatest number of pairs of components that a rebase meets.
 pub(crate) const LONG_REBASE: usize = 2_097_152;
