@@ -1,7 +1,6 @@
 -- What the statements of the mark do.
-use Rattle.std.proofs.Common.{◌≡◌, inl, inr, ℕ, suc, pos, negsuc, List, [], ◌∷◌, ◌++◌, length, map, flat_map, codes, Bool, true, false, None, Ok, Err, Result, OnOk, IfOk, refl, sym, ap, subst, ◌∙◌, arith, IsTrue}
-use Rattle.std.proofs.lemmas.Bool.Decides.{nat_tests}
-use Rattle.std.specs.Ordering.{int_eq}
+use Rattle.std.proofs.Common.{◌≡◌, inl, inr, ℕ, suc, pos, negsuc, List, [], ◌∷◌, ◌++◌, length, map, flat_map, codes, Bool, true, false, None, Ok, Err, Result, OnOk, IfOk, refl, sym, ap, subst, ◌∙◌, arith, lt→ltb, IsTrue}
+use Rattle.std.specs.Cmp.{int_cmp_is}
 use Rattle.std.specs.declared.cmp.Ordering.TheVariants.{Equal, Greater}
 use Rattle.sqlite_rules.specs.Cast.{as_integer}
 use Rattle.sqlite_value.proofs.OrderLemmas.{value_cmp-Int}
@@ -11,9 +10,11 @@ use Rattle.std.proofs.lemmas.List.Sorted.{length_permutation}
 use Rattle.std.proofs.lemmas.List.{length-map}
 use Rattle.sqlite_value.specs.declared.value.Value.TheVariants.{Null, Int, Blob as Bytes}
 use Rattle.sqlite_value.specs.Order.{Row, value_cmp}
-use Rattle.sqlite_sql.specs.declared.ops.UnaryOp.TheVariants.{Not}
-use Rattle.sqlite_sql.specs.Ops.{unary}
-use Rattle.sqlite_sql.specs.Term.{Term, Env, lit, col, op1, holds}
+use Rattle.sqlite_sql.specs.declared.ops.BinaryOp.TheVariants.{Compare}
+use Rattle.sqlite_sql.specs.declared.ops.CompareOp.TheVariants.{Eq}
+use Rattle.sqlite_value.specs.declared.keys.Collation.TheVariants.{Binary}
+use Rattle.sqlite_sql.specs.Ops.{unary, binary}
+use Rattle.sqlite_sql.specs.Term.{Term, Env, lit, col, op2, holds}
 use Rattle.sqlite_sql.specs.Query.{Query, inner, end, IsAnswer, output, Output}
 use Rattle.sqlite_sql.specs.Program.{overlay}
 use Rattle.sqlite_schema.specs.declared.command.Source.TheVariants.{Values}
@@ -104,12 +105,15 @@ marked_before lines old new has settled sound mark same =
 -- ---- the query of the mark
 
 abbrev pub find_text : List ℕ
-find_text = codes "SELECT number FROM sdb_line WHERE NOT number"
+find_text = codes "SELECT number FROM sdb_line WHERE number = 0"
+
+abbrev is_zero : Term
+is_zero = op2 (Compare Eq Binary) (col 1 0) (lit (Int (pos 0)))
 
 abbrev find_query : Query
 find_query = record {
   from = inner 0 end;
-  filter = op1 Not (col 1 0) ∷ [];
+  filter = is_zero ∷ [];
   group = None;
   project = col 1 0 ∷ [];
   distinct = false;
@@ -129,18 +133,18 @@ find_plain = (refl, refl)
 
 -- what the filter keeps of a row
 abbrev found_of : Row → List Env
-found_of r = if list_all (holds ([] ∷ r ∷ [])) (op1 Not (col 1 0) ∷ []) then ([] ∷ r ∷ []) ∷ [] else []
+found_of r = if list_all (holds ([] ∷ r ∷ [])) (is_zero ∷ []) then ([] ∷ r ∷ []) ∷ [] else []
 
-not_zero : (n : ℕ) → int_eq (pos (suc n)) (pos 0) ≡ false
-not_zero n = grind (arith, nat_tests)
+line_is_above : (n : ℕ) → value_cmp (Int (pos (suc n))) (Int (pos 0)) ≡ Greater
+line_is_above n = value_cmp-Int (pos (suc n)) (pos 0) ∙ sym (int_cmp_is (pos (suc n)) (pos 0) Greater (record { lt = lt→ltb 0 (suc n) (omega (arith)) }))
 
 line_not_found : (n : ℕ) (x : List ℕ) → found_of (row_of (suc n) x) ≡ []
-unfolding unary
-line_not_found n x = rw (not_zero n) refl
+unfolding binary
+line_not_found n x = rw (line_is_above n) refl
 
 mark_found : found_of mark_row ≡ ([] ∷ mark_row ∷ []) ∷ []
-unfolding unary
-mark_found = refl
+unfolding binary
+mark_found = rw same_number refl
 
 none_found : (n : ℕ) (lines : List (List ℕ)) → flat_map found_of (rows_from (suc n) lines) ≡ []
 none_found n [] = refl

@@ -22,10 +22,10 @@ use std::hash::{BuildHasher, RandomState};
 const MARK_TEXT: &str = "INSERT INTO sdb_line (number, line) VALUES (0, x'6F70656E')";
 
 /// Deletes the mark.
-const UNMARK_TEXT: &str = "DELETE FROM sdb_line WHERE NOT number";
+const UNMARK_TEXT: &str = "DELETE FROM sdb_line WHERE number = 0";
 
 /// Reads the mark.
-const FIND_TEXT: &str = "SELECT number FROM sdb_line WHERE NOT number";
+const FIND_TEXT: &str = "SELECT number FROM sdb_line WHERE number = 0";
 
 /// Stores the mark in the database file, which [`close`](crate::close) deletes, before lines are
 /// stored. So a file without its log is refused if it wasn't closed.
