@@ -240,6 +240,7 @@ class View {
   constructor({ name, accent }, address, id) {
     this.element = fromTemplate('view');
     this.element.style.setProperty('--accent', accent);
+    this.element.id = name.toLowerCase();
     this.find('h2').textContent = name;
     this.client = new Navirotsohy.Client(address, { source: `${name.toLowerCase()}-${randomId()}` });
     this.shared = this.client.document(COLLECTION, id);
@@ -370,6 +371,15 @@ function serverOf(parameters) {
   return { server, address: server.includes('://') ? server : `${isSecure ? 'wss' : 'ws'}://${server}` };
 }
 
+// Creates the link to a view on a narrow screen.
+function linkTo({ name, accent }, { element }) {
+  const link = document.createElement('a');
+  link.textContent = name;
+  link.href = `#${element.id}`;
+  link.style.setProperty('--accent', accent);
+  return link;
+}
+
 function main() {
   const parameters = new URLSearchParams(location.search);
   const { server, address } = serverOf(parameters);
@@ -379,6 +389,7 @@ function main() {
   return VIEWS.map((view) => {
     const made = new View(view, address, id);
     document.querySelector('main').append(made.element);
+    document.querySelector('nav').append(linkTo(view, made));
     const changed = () => life.changed(made.shared.version);
     made.shared.on('version', changed);
     made.shared.on('load', changed);
@@ -387,3 +398,8 @@ function main() {
 }
 
 window.views = main(); // for the console
+
+// The browser asks before it closes the page while edits aren't stored.
+window.addEventListener('beforeunload', (event) => {
+  if (window.views.some(({ shared }) => shared.pending > 0)) event.preventDefault();
+});

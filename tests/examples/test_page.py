@@ -196,6 +196,38 @@ def test_page_over_https(server):
     assert asyncio.run(run())
 
 
+def test_narrow_screen(server):
+    """A link at the top leads to each view, from wherever the page is."""
+
+    async def play(page):
+        await page.call("Emulation.setDeviceMetricsOverride", width=375, height=640, deviceScaleFactor=1, mobile=True)
+        tops = []
+        for view in (1, 0):
+            await page.evaluate(f"document.querySelectorAll('nav a')[{view}].click()")
+            await page.evaluate("new Promise((then) => requestAnimationFrame(() => requestAnimationFrame(() => then(1))))")
+            tops.append(await page.evaluate(f"views[{view}].element.getBoundingClientRect().top"))
+            tops.append(await page.evaluate("document.querySelector('nav').getBoundingClientRect().top"))
+        return tops
+
+    assert all(0 <= top < 80 for top in in_page(server, "narrow", play))
+
+
+def test_page_that_closes_with_edits(server):
+    """The browser asks while an edit isn't stored, and not afterwards."""
+    asks = "(() => { const it = new Event('beforeunload', { cancelable: true }); return !window.dispatchEvent(it); })()"
+
+    async def play(page):
+        seen = [await page.evaluate(asks)]
+        await page.evaluate("views[1].find('.connection').click()")
+        await page.evaluate("void views[1].shared.submit([{ p: ['text', 0], si: 'a' }])")
+        seen.append(await page.evaluate(asks))
+        await page.evaluate("views[1].find('.connection').click()")
+        await page.until("views[1].shared.pending === 0")
+        return [*seen, await page.evaluate(asks)]
+
+    assert in_page(server, "closes", play) == [False, True, False]
+
+
 def test_server_that_ends(server):
     async def play(page):
         server.process.kill()
