@@ -8,10 +8,11 @@ CLIENTS clients, 40 without it, do each of these at once, without a pause:
 - last: as late, to one document, which another client edits with operations of 256 components;
 - short: sends an operation of 128 components that missed one of 128 components, to a document of its own.
 
-The first ones are near the bound of what the server transforms, the last near that of what it transforms without a place. Meanwhile one client edits sixteen other documents in turn,
-one connects anew, and one sends edits of one component with the base version 1 to a document with 60 operations of 256 components.
-For each it prints the middle and the slowest, first without the hostile clients. An answer with ERR_OUT_OF_MEMORY counts as one,
-and is counted too. The hostile clients have the lowest priority, since they would be other machines.
+The first ones are near the bound of what the server transforms, the last near that of what it transforms without a place.
+Meanwhile one client edits sixteen other documents in turn, one connects anew, and one sends edits of one component with the base
+version 1 to a document with 60 operations of 256 components. For each it prints the middle and the slowest, first without the
+hostile clients. An answer with ERR_OUT_OF_MEMORY counts as one, and is counted too. The hostile clients have the lowest priority,
+since they would be other machines.
 
 SERVER is the program of the server. It is started at a port of its own and stopped at the end."""
 import multiprocessing
