@@ -136,7 +136,9 @@ abbrev found_of : Row → List Env
 found_of r = if list_all (holds ([] ∷ r ∷ [])) (is_zero ∷ []) then ([] ∷ r ∷ []) ∷ [] else []
 
 line_is_above : (n : ℕ) → value_cmp (Int (pos (suc n))) (Int (pos 0)) ≡ Greater
-line_is_above n = value_cmp-Int (pos (suc n)) (pos 0) ∙ sym (int_cmp_is (pos (suc n)) (pos 0) Greater (record { lt = lt→ltb 0 (suc n) (omega (arith)) }))
+line_is_above n =
+    value_cmp-Int (pos (suc n)) (pos 0)
+    ∙ sym (int_cmp_is (pos (suc n)) (pos 0) Greater (record { lt = lt→ltb 0 (suc n) (omega (arith)) }))
 
 line_not_found : (n : ℕ) (x : List ℕ) → found_of (row_of (suc n) x) ≡ []
 unfolding binary
