@@ -59,6 +59,7 @@ var MESSAGES = {
   ERR_NOT_LOADED: "document is not loaded: fetch it or subscribe to it first",
   ERR_PROTOCOL: "the other end is no server of documents",
   ERR_SERVER_RESTARTED: "the server was restarted and has lost the document",
+  ERR_STORAGE: "the storage has failed",
   ERR_UNREACHABLE: "the server can not be reached"
 };
 var Refusal = class extends Error {

@@ -33,7 +33,9 @@ var Navirotsohy = (() => {
     complete: () => complete,
     compose: () => compose,
     cross: () => cross,
+    customStorage: () => customStorage,
     difference: () => difference,
+    indexedDbStorage: () => indexedDbStorage,
     invert: () => invert,
     textChange: () => textChange,
     transformComponent: () => transformComponent,
@@ -189,6 +191,7 @@ var Navirotsohy = (() => {
     ERR_NOT_LOADED: "document is not loaded: fetch it or subscribe to it first",
     ERR_PROTOCOL: "the other end is no server of documents",
     ERR_SERVER_RESTARTED: "the server was restarted and has lost the document",
+    ERR_STORAGE: "the storage has failed",
     ERR_UNREACHABLE: "the server can not be reached"
   };
   var Refusal = class extends Error {
@@ -1329,15 +1332,17 @@ var Navirotsohy = (() => {
   var Machine = class {
     /**
      * @param {{collection: string, id: string, source: string, nextNumber: () => number, now: () => number,
-     *   freeze?: boolean, batch?: boolean}} settings
+     *   freeze?: boolean, batch?: boolean, stores?: boolean}} settings
      */
-    constructor({ collection, id, source, nextNumber, now, freeze = false, batch = false }) {
+    constructor({ collection, id, source, nextNumber, now, freeze = false, batch = false, stores = false }) {
       this.address = { c: collection, d: id };
       this.source = source;
       this.nextNumber = nextNumber;
       this.now = now;
       this.freeze = freeze;
       this.batch = batch;
+      this.stores = stores;
+      this.isRestoring = stores;
       this.room = LONGEST_MESSAGE - bytesOf(this.textOf({ op: [] }, Number.MAX_SAFE_INTEGER, Number.MAX_SAFE_INTEGER));
       this.state = "offline";
       this.version = null;
@@ -1567,6 +1572,7 @@ var Navirotsohy = (() => {
         if (version < snapshot.v)
           this.arrived.delete(version);
       this.confirmed = dataOf(snapshot);
+      this.out.replaced = true;
       this.data = this.confirmed;
       this.state = "live";
       this.emitWhole(before);
@@ -1665,7 +1671,7 @@ var Navirotsohy = (() => {
     }
     // Stored operations --------------------------------------------------------------------------------------------
     isInFlight({ seq, src }) {
-      return this.inFlight !== null && seq === this.inFlight.seq && src === this.source;
+      return this.inFlight !== null && seq === this.inFlight.seq && src === this.inFlight.source;
     }
     // A message with a content is a stored operation, one without acknowledges the own one. An acknowledgement of a
     // duplicate may be received before operations of smaller versions, so it is kept.
@@ -1731,6 +1737,7 @@ var Navirotsohy = (() => {
       }
       this.version += 1;
       this.last = { source, seq };
+      this.out.seen.push({ version, source, seq, content });
       if (shown && !isSent && !this.isConfirmedBy(before, own.content)) {
         this.refused(numberIsUsed(version));
         this.emit("version", { version, source, seq });
@@ -1835,6 +1842,7 @@ var Navirotsohy = (() => {
       if (version < this.version || isSame(plain(this.confirmed), data))
         return;
       this.confirmed = data;
+      this.out.replaced = true;
       this.replaceData();
       this.emit("healed", { version });
     }
@@ -1936,7 +1944,8 @@ var Navirotsohy = (() => {
       const waiting = last && !this.preventCompose ? last.content.op : void 0;
       const length = content.op ? lengthOf(content.op) : 0;
       if (!waiting || !content.op || !isComposable(waiting.length + content.op.length, last.length + length)) {
-        this.queue.push({ content, length, waiters: [waiter], since: this.now() });
+        const number = last ? last.number + 1 : 0;
+        this.queue.push({ number, content, length, waiters: [waiter], since: this.now() });
         return;
       }
       const joined = compose(waiting, content.op);
@@ -1947,40 +1956,46 @@ var Navirotsohy = (() => {
       this.queue.pop();
       this.resolve(last.waiters, { version: null });
     }
-    textOf(content, version, seq) {
-      return JSON.stringify({ a: "op", ...this.address, v: version, src: this.source, seq, ...content });
+    textOf(content, version, seq, source = this.source) {
+      return JSON.stringify({ a: "op", ...this.address, v: version, src: source, seq, ...content });
     }
     // At most one content is in flight. The next one is sent at the version that includes it.
     sendNext() {
-      if (this.inFlight !== null) {
-        if (!this.inFlight.sent)
-          this.out.messages.push(this.inFlight.text);
-        this.inFlight.sent = true;
-        return;
+      if (this.inFlight === null) {
+        const first = this.isHeld ? void 0 : this.queue.shift();
+        if (first)
+          this.takeFirst(first);
       }
-      const first = this.isHeld ? void 0 : this.queue.shift();
-      if (first)
-        this.sendFirst(first);
+      const own = this.inFlight;
+      if (own === null || own.sent || !own.saved)
+        return;
+      own.sent = true;
+      this.out.messages.push(own.text);
     }
     // Sends a content again, as it applies now: the server may have refused it since it missed too much.
     sendAgain(own) {
       const fits = own.content !== null && (!own.content.op || firstPart(own.content.op, this.room).rest.length === 0);
       if (fits)
-        own.text = this.textOf(own.content, this.version, own.seq);
-      this.out.messages.push(own.text);
+        own.text = this.textOf(own.content, this.version, own.seq, own.source);
+      if (fits && this.stores)
+        Object.assign(own, { saved: false, sent: false });
+      else
+        this.out.messages.push(own.text);
     }
     // An operation that grew beyond the server's limits is sent in parts. Its promise waits for the last one.
-    sendFirst({ content, waiters, since }) {
+    takeFirst({ number, content, waiters, since }) {
       const { part, rest } = content.op ? firstPart(content.op, this.room) : { part: null, rest: [] };
       if (rest.length > 0)
-        this.queue.unshift({ content: { op: rest }, length: lengthOf(rest), waiters, since });
+        this.queue.unshift({ number, content: { op: rest }, length: lengthOf(rest), waiters, since });
       const sent = part ? { op: part } : content;
       const seq = this.nextNumber();
       this.inFlight = {
         content: sent,
+        source: this.source,
         seq,
         text: this.textOf(sent, this.version, seq),
-        sent: true,
+        saved: !this.stores,
+        sent: false,
         answered: null,
         // the version, if it was acknowledged
         waiters: rest.length > 0 ? [] : waiters,
@@ -1990,7 +2005,6 @@ var Navirotsohy = (() => {
         dropped: []
         // the contents made on it
       };
-      this.out.messages.push(this.inFlight.text);
     }
     // Drops pending contents from one on. The answer to the one in flight is outstanding, so it stays without a content.
     // Returns those that are dropped now.
@@ -2026,6 +2040,8 @@ var Navirotsohy = (() => {
     }
     // The connection -----------------------------------------------------------------------------------------------
     connected() {
+      if (this.isRestoring)
+        return;
       this.state = "idle";
       for (const request of this.requests.splice(0))
         this.sendRequest(request);
@@ -2053,7 +2069,36 @@ var Navirotsohy = (() => {
       this.state = "closed";
       this.wanted = false;
       this.failure = error;
-      this.discard({ error });
+      if (this.stores)
+        for (const { waiters } of this.takePending())
+          this.reject(waiters, error);
+      else
+        this.discard({ error });
+    }
+    // The storage ----------------------------------------------------------------------------------------------------
+    // The storage has been read. It may not have the document.
+    restored({ kept }) {
+      if (kept !== null)
+        this.restore(kept);
+      this.isRestoring = false;
+    }
+    /** @param {Kept} kept */
+    restore({ version, last, data, log, sent, queue }) {
+      const fresh = (one) => ({ ...one, waiters: [], since: this.now() });
+      this.confirmed = log.reduce((before, { content }) => applyContent(before, content), data);
+      this.version = version + log.length;
+      this.last = log[log.length - 1] || last;
+      this.queue = queue.map(fresh);
+      if (sent !== null)
+        this.inFlight = { ...fresh(sent), dropped: sent.dropped.map(fresh) };
+      this.replaceData();
+      this.emit("load", { version: this.version });
+    }
+    // The message is saved. Without one the storage keeps the document no more.
+    saved({ text }) {
+      this.stores = text !== void 0;
+      if (this.inFlight !== null && (!this.stores || this.inFlight.text === text))
+        this.inFlight.saved = true;
     }
     // Calls --------------------------------------------------------------------------------------------------------
     // A call begins again after a refusal of the document.
@@ -2105,7 +2150,8 @@ var Navirotsohy = (() => {
     }
   };
   function nothing() {
-    return { messages: [], settled: [], events: [], changes: [], retries: [], comparison: null, release: false };
+    const effects = { messages: [], settled: [], events: [], changes: [], retries: [], comparison: null, release: false };
+    return { ...effects, seen: [], replaced: false };
   }
   var INPUTS = {
     connected: (machine) => machine.connected(),
@@ -2113,6 +2159,8 @@ var Navirotsohy = (() => {
     failed: (machine, { error }) => machine.failure = error,
     trying: (machine) => machine.failure = null,
     closed: (machine, { error }) => machine.closed(error),
+    restored: (machine, input) => machine.restored(input),
+    saved: (machine, input) => machine.saved(input),
     message: (machine, input) => machine.receive(input),
     compared: (machine, input) => machine.receiveCompared(input),
     retry: (machine, input) => machine.retry(input),
@@ -2159,11 +2207,12 @@ var Navirotsohy = (() => {
      */
     constructor(transport, collection, id) {
       super();
-      const { source, nextNumber, clock, freeze, batch } = transport;
-      const machine = new Machine({ collection, id, source, nextNumber, now: clock.now, freeze, batch });
+      const { source, nextNumber, clock, freeze, batch, keeper } = transport;
+      const settings = { source, nextNumber, now: clock.now, freeze, batch, stores: keeper !== void 0 };
+      const machine = new Machine({ collection, id, ...settings });
       const core = { doc: this, transport, machine, collection, id, waiting: false, timer: null, leaving: null };
       const submitAtOnce2 = (operation, from) => takeEdit(core, () => ({ op: readOperation(operation, Infinity) }), from);
-      Object.assign(core, { observers: /* @__PURE__ */ new Set(), submitAtOnce: submitAtOnce2 });
+      Object.assign(core, { observers: /* @__PURE__ */ new Set(), submitAtOnce: submitAtOnce2, run: (input) => run(core, input) });
       Object.defineProperty(this, "_doc", { value: () => core });
     }
     /** A collection, or the name of a projection. */
@@ -2278,7 +2327,8 @@ var Navirotsohy = (() => {
      * Waits until nothing is pending, unsubscribes, and drops the document: the client then returns another object for
      * it. Edits and subscriptions after this call are refused with ERR_CLOSED, and never sent. If `Client.document` is
      * called for it before the end, the document stays and takes edits again.
-     * @param {{discard?: boolean}} [options] `discard` drops pending edits instead of waiting for them
+     * @param {{discard?: boolean, forget?: boolean}} [options] `discard` drops pending edits instead of waiting for them,
+     *   `forget` also removes the document from the storage
      * @returns {Promise<void>}
      */
     async destroy(options = {}) {
@@ -2287,7 +2337,9 @@ var Navirotsohy = (() => {
       core.leaving = core.leaving || {};
       const { leaving } = core;
       const isKept = () => machine.state === "closed" || core.leaving !== leaving;
-      if (options.discard)
+      if (machine.isRestoring)
+        await until(core, () => !machine.isRestoring || isKept());
+      if (options.discard && !isKept())
         run(core, { type: "discard", error: new Refusal("ERR_CLOSED") });
       await until(core, () => machine.pending === 0 || isKept());
       if (isKept())
@@ -2296,7 +2348,7 @@ var Navirotsohy = (() => {
       await until(core, () => machine.isQuiet || machine.state === "offline" || isKept());
       if (isKept())
         return;
-      core.transport.forget(this);
+      core.transport.forget(core, options.forget);
       close(core);
     }
     /**
@@ -2436,10 +2488,10 @@ var Navirotsohy = (() => {
      * @returns {Promise<void>} is fulfilled when nothing is pending
      */
     whenNothingPending(listener) {
-      const settled = until(coreOf(this), (machine) => machine.pending === 0);
+      const settled2 = until(coreOf(this), (machine) => machine.pending === 0 && !machine.isRestoring);
       if (listener)
-        settled.then(listener).catch(report);
-      return settled;
+        settled2.then(listener).catch(report);
+      return settled2;
     }
   };
   function coreOf(doc) {
@@ -2456,18 +2508,20 @@ var Navirotsohy = (() => {
     while (machine.canAdvance)
       perform(core, machine.transition({ type: "advance" }));
   }
-  function perform(core, { messages, settled, events, changes, retries, comparison, release }) {
+  function perform(core, transition) {
     const { transport, doc } = core;
+    const { messages, settled: settled2, events, changes, retries, comparison, release } = transition;
     callObservers(core.observers, changes);
     for (const message of messages)
       transport.send(message);
     if (release)
       Promise.resolve().then(() => run(core, { type: "release" })).catch(report);
+    transport.keeper?.observe(core, transition);
     for (const retry of retries)
       transport.later(() => run(core, retry));
     if (comparison !== null)
       compare2(core, comparison);
-    for (const settle of settled)
+    for (const settle of settled2)
       settle();
     observeWaiting(core, events);
     emitAll(doc, events);
@@ -2618,7 +2672,8 @@ var Navirotsohy = (() => {
     }
   }
   function completeOptions(options) {
-    const { source = randomSource(), WebSocket = globalThis["WebSocket"] } = options;
+    const { WebSocket = globalThis["WebSocket"] } = options;
+    const source = options.storage || options.source === void 0 ? randomSource() : options.source;
     if (typeof WebSocket !== "function") {
       throw new Error("there is no WebSocket here: hand one over, as new Client(address, { WebSocket: require('ws') })");
     }
@@ -2683,9 +2738,13 @@ var Navirotsohy = (() => {
     disconnect() {
       connectionOf(this).disconnect();
     }
-    /** Closes the connection and all documents for good. Pending edits are dropped, and fail with ERR_CLOSED. */
-    close() {
-      connectionOf(this).close();
+    /**
+     * Closes the connection and all documents for good. Pending edits fail with ERR_CLOSED: they are dropped or, with a
+     * storage, kept for the next start.
+     * @returns {Promise<void>} is fulfilled when the storage has them
+     */
+    async close() {
+      await connectionOf(this).close();
     }
     /**
      * The document of this collection and id, the same object until it is destroyed.
@@ -2722,6 +2781,11 @@ var Navirotsohy = (() => {
       await Promise.all([...connectionOf(this).documents.values()].map(({ doc }) => doc.whenNothingPending()));
     }
   };
+  function resume(client, reporter, collection, id, options = {}) {
+    const doc = client.document(collection, id);
+    doc.on("refused", ({ error, contents }) => reporter.emit("refused", { collection, id, error, contents }));
+    return doc.destroy(options);
+  }
   function connectionOf(client) {
     return client._client();
   }
@@ -2729,6 +2793,7 @@ var Navirotsohy = (() => {
     constructor(client, address, options) {
       this.client = client;
       this.address = address;
+      this.options = options;
       this.source = options.source;
       this.WebSocket = options.WebSocket;
       const { connectTimeout = 2e4, heartbeat = 2e4, retryDelay = 1e3, longestDelay = 3e4 } = options;
@@ -2759,6 +2824,7 @@ var Navirotsohy = (() => {
       this.documents = /* @__PURE__ */ new Map();
       this.becameIdle = () => {
       };
+      this.keeper = options.storage?._keeperFor(this);
       this.transport = this.transportOf({ freeze, batch });
     }
     // Returns what documents need of the connection.
@@ -2768,13 +2834,14 @@ var Navirotsohy = (() => {
         clock: this.clock,
         freeze,
         batch,
+        keeper: this.keeper,
         nextNumber: () => this.number += 1,
         send: (text) => this.send(text),
         later: (action) => this.later(action),
         compare: (c, d, v, receive2) => this.request({ a: "nf", c, d, v }, true, receive2),
         snapshot: (c, d, v) => this.snapshot({ a: "nf", c, d, v }),
         snapshotAtTime: (c, d, ts) => this.snapshot({ a: "nt", c, d, ts }),
-        forget: (doc) => this.forget(doc)
+        forget: (core, forgets) => this.forget(core, forgets)
       };
     }
     observeIdle() {
@@ -2811,15 +2878,20 @@ var Navirotsohy = (() => {
       emitAll(this.client, this.end("disconnected", "disconnected"));
     }
     close() {
-      if (this.state === "closed")
-        return;
+      if (this.state !== "closed")
+        this.closeAll();
+      return this.keeper?.close();
+    }
+    closeAll() {
       this.release();
       this.want(false);
       this.setTimer(null);
       const ended = this.end("disconnected", "closed");
       this.state = "closed";
-      for (const core of this.documents.values())
+      for (const core of this.documents.values()) {
+        this.keeper?.leave(core, false);
         close(core);
+      }
       this.documents.clear();
       this.rejectRequests(new Refusal("ERR_CLOSED"));
       emitAll(this.client, [...ended, ["state", "closed"]]);
@@ -2833,6 +2905,7 @@ var Navirotsohy = (() => {
       if (!this.documents.has(key)) {
         const core2 = coreFor(this.transport, collection, id);
         this.documents.set(key, core2);
+        this.keeper?.open(core2);
         if (this.state === "connected")
           run(core2, { type: "connected" });
         if (this.error !== null)
@@ -2842,9 +2915,30 @@ var Navirotsohy = (() => {
       keep(core);
       return core.doc;
     }
-    forget({ collection, id }) {
-      this.documents.delete(keyOf(collection, id));
+    forget(core, forgets) {
+      this.documents.delete(keyOf(core.collection, core.id));
+      this.keeper?.leave(core, forgets);
       this.observeIdle();
+    }
+    // The storage --------------------------------------------------------------------------------------------------
+    // Sends the pending edits of a document that the application hasn't opened. A cluster does it at its start.
+    resume(collection, id) {
+      if (!this.options.isBucket)
+        resume(this.client, this.client, collection, id);
+    }
+    // Sends pending edits of a document over a connection of their own, whose storage has these only. Calls `ended` when
+    // they are sent, or when the connection is lost.
+    sendApart(storage, collection, id, ended) {
+      const client = new Client(this.address, { ...this.options, connect: true, storage });
+      const end = () => client.close().then(ended);
+      client.on("close", end);
+      client.document(collection, id).on("error", end);
+      resume(client, this.client, collection, id, { forget: true }).then(end);
+      return client;
+    }
+    // The client continues without the storage.
+    reportStorage(error) {
+      this.client.emit("error", refusal("ERR_STORAGE", error.message));
     }
     snapshot(message) {
       if (this.state === "closed")
@@ -3046,6 +3140,7 @@ var Navirotsohy = (() => {
     // time for it.
     checkAlive() {
       const hasSlept = this.clock.now() - this.checkAt > LATE;
+      this.keeper?.beat();
       if (this.isAlive || hasSlept)
         this.requestSign(hasSlept ? TEST : this.heartbeat);
       else
@@ -3106,8 +3201,10 @@ var Navirotsohy = (() => {
         if (this.socket === socket && core.machine.state === "offline")
           run(core, { type: "connected" });
       }
-      if (this.socket === socket)
-        this.client.emit("state", "connected");
+      if (this.socket !== socket)
+        return;
+      this.keeper?.beat();
+      this.client.emit("state", "connected");
     }
     receiveForDocument(message) {
       const core = this.documents.get(keyOf(message.c, message.d));
@@ -3160,7 +3257,7 @@ var Navirotsohy = (() => {
         cluster: this,
         address,
         buckets,
-        options: { ...others, clock, connect: false },
+        options: { ...others, clock, connect: false, isBucket: true },
         clock,
         idleDelay,
         wanted: connect,
@@ -3170,6 +3267,8 @@ var Navirotsohy = (() => {
         // by bucket; one that is closed stays, since it counts the edits of its source
       };
       Object.defineProperty(this, "_cluster", { value: () => core });
+      if (options.storage)
+        resumePending(core, options.storage);
     }
     /**
      * The base address.
@@ -3252,14 +3351,17 @@ var Navirotsohy = (() => {
       for (const client of clientsOf(this))
         client.disconnect();
     }
-    /** Closes all connections and all documents for good. Pending edits are dropped, and fail with ERR_CLOSED. */
-    close() {
+    /**
+     * Closes all connections and all documents for good. Pending edits fail with ERR_CLOSED: they are dropped or, with a
+     * storage, kept for the next start.
+     * @returns {Promise<void>} is fulfilled when the storage has them
+     */
+    async close() {
       const core = coreOf2(this);
       core.isClosed = true;
-      for (const connection of core.connections.values()) {
+      for (const connection of core.connections.values())
         setTimer(core, connection, null);
-        connection.client.close();
-      }
+      await Promise.all(clientsOf(this).map((client) => client.close()));
     }
     /**
      * The document of this collection and id, the same object until it is destroyed.
@@ -3327,12 +3429,21 @@ var Navirotsohy = (() => {
     const connection = { bucket, client, isUsed: false, timer: null };
     client.on("state", (state) => cluster.emit("state", { bucket, state }));
     client.on("error", (error) => cluster.emit("error", { bucket, error }));
+    client.on("refused", (detail) => cluster.emit("refused", detail));
     client.on("close", (closing) => {
       core.closing = { bucket, ...closing };
       cluster.emit("close", core.closing);
     });
     connectionOf(client).becameIdle = () => setTimer(core, connection, () => leave(connection));
     return connection;
+  }
+  async function resumePending(core, storage) {
+    for (const { collection, id, pending } of await storage.documents().catch(() => [])) {
+      const { documents } = connectionOf(connectionFor(core, id).client);
+      const isOpen = core.isClosed || documents.has(keyOf(collection, id));
+      if (pending && !isOpen)
+        resume(core.cluster, core.cluster, collection, id);
+    }
   }
   function use(core, connection) {
     setTimer(core, connection, null);
@@ -3360,6 +3471,417 @@ var Navirotsohy = (() => {
     use(core, connection);
     return request(connection.client);
   }
+
+  // src/keeper.js
+  var LATER = 1e3;
+  var MOST_LOGGED = 500;
+  var RESTORED = { saved: true, sent: false, answered: null };
+  function padded(number) {
+    return String(number).padStart(16, "0");
+  }
+  function placesOf(keys) {
+    const places = {};
+    for (const key of keys) {
+      const [, front, document, kind] = /^((\[.*\])\/[^/]*\/)(.)/.exec(key) || [];
+      places[front] = places[front] || { front, document, pending: false };
+      if (kind === "s" || kind === "w")
+        places[front].pending = true;
+    }
+    return Object.values(places);
+  }
+  async function documentsOf(methods) {
+    const documents = {};
+    for (const { document, pending } of placesOf(await methods.keys(""))) {
+      documents[document] = pending || documents[document] || false;
+    }
+    return Object.keys(documents).map((document) => {
+      const [collection, id] = JSON.parse(document);
+      return { collection, id, pending: documents[document] };
+    });
+  }
+  function recordOf(front, pairs, release) {
+    const kept = { log: [], sent: null, queue: [] };
+    const record = { front, release, kept: null, logs: [], texts: /* @__PURE__ */ new Map(), entries: [], isWhole: false };
+    for (const [key, text] of pairs) {
+      const [kind] = key.slice(front.length).split("/");
+      const value = JSON.parse(text);
+      if (kind === "base")
+        record.kept = Object.assign(kept, value);
+      else if (kind === "log")
+        kept.log.push(value);
+      else if (kind === "sent")
+        kept.sent = value;
+      else
+        kept.queue.push(value);
+      if (kind === "log")
+        record.logs.push(key);
+      else if (kind !== "base")
+        record.texts.set(key, text);
+    }
+    record.queued = kept.queue.length;
+    record.waits = record.queued > 0;
+    return record;
+  }
+  function changesOf({ machine }, record) {
+    const { version, last, inFlight, queue } = machine;
+    const { front } = record;
+    const changes = [];
+    if (version !== null && (record.isWhole || record.logs.length > MOST_LOGGED)) {
+      const text = JSON.stringify({ version, last, data: machine.readable(machine.confirmed) });
+      changes.push([`${front}base`, text], ...record.logs.map((key) => [key, null]));
+      Object.assign(record, { isWhole: false, logs: [], entries: [] });
+    }
+    for (const entry of record.entries.splice(0)) {
+      const key = `${front}log/${padded(entry.version)}`;
+      changes.push([key, JSON.stringify(entry)]);
+      record.logs.push(key);
+    }
+    const texts = /* @__PURE__ */ new Map();
+    for (const queued of queue)
+      texts.set(`${front}wait/${padded(queued.number)}`, JSON.stringify(queued));
+    if (inFlight !== null)
+      texts.set(`${front}sent`, JSON.stringify({ ...inFlight, ...RESTORED }));
+    for (const key of record.texts.keys())
+      if (!texts.has(key))
+        changes.push([key, null]);
+    for (const [key, text] of texts)
+      if (record.texts.get(key) !== text)
+        changes.push([key, text]);
+    record.texts = texts;
+    record.queued = queue.length;
+    return changes;
+  }
+  function removalsOf({ front, logs, texts }) {
+    return [`${front}base`, ...logs, ...texts.keys()].map((key) => [key, null]);
+  }
+  var Keeper = class {
+    /**
+     * @param {StorageMethods} methods
+     * @param {any} connection
+     * @param {{front: string, release: () => void} | null} held the only record, if its lock is held
+     */
+    constructor(methods, connection, held = null) {
+      this.methods = methods;
+      this.connection = connection;
+      this.held = held;
+      this.records = /* @__PURE__ */ new Map();
+      this.dirty = /* @__PURE__ */ new Set();
+      this.changes = /* @__PURE__ */ new Map();
+      this.releases = [];
+      this.isUrgent = false;
+      this.writing = null;
+      this.timer = null;
+      this.apart = /* @__PURE__ */ new Set();
+      this.hasFailed = false;
+    }
+    // Opening ------------------------------------------------------------------------------------------------------
+    /** Reads a document of the storage. Until then it isn't loaded, and its connection isn't used. */
+    async open(core) {
+      const { connection, records } = this;
+      try {
+        const record = await this.take(core);
+        if (core.machine.state === "closed") {
+          record.release();
+          return;
+        }
+        records.set(core, record);
+        core.run({ type: "restored", kept: record.kept });
+      } catch (error) {
+        records.delete(core);
+        connection.reportStorage(error);
+        core.run({ type: "restored", kept: null });
+        core.run({ type: "saved" });
+      }
+      if (connection.state === "connected" && core.machine.state === "offline")
+        core.run({ type: "connected" });
+    }
+    // Takes the record with pending edits, or else the newest, or a new one.
+    async take({ collection, id }) {
+      if (this.held !== null)
+        return this.read(this.held.front, this.held.release);
+      const document = JSON.stringify([collection, id]);
+      const places = placesOf(await this.methods.keys(document));
+      const free = [];
+      for (const { front } of places) {
+        const release = await this.methods.lock(front);
+        const record = release && await this.read(front, release);
+        if (record?.kept)
+          free.push(record);
+        else
+          release?.();
+      }
+      if (free.length === 0)
+        return this.create(document, places);
+      const rank = ({ kept, texts }) => texts.size > 0 ? Infinity : kept.version + kept.log.length;
+      const best = free.reduce((one, other) => rank(other) > rank(one) ? other : one);
+      for (const other of free)
+        if (other !== best)
+          this.letGo(other);
+      return best;
+    }
+    async read(front, release) {
+      return recordOf(front, await this.methods.read(front), release);
+    }
+    // A new record begins with the confirmed document of another client's.
+    async create(document, places) {
+      const front = `${document}/${Math.random()}/`;
+      const record = recordOf(front, [], await this.methods.lock(front));
+      if (places.length === 0)
+        return record;
+      const { kept } = await this.read(places[0].front, null);
+      if (kept !== null)
+        Object.assign(record, { kept: { ...kept, sent: null, queue: [] }, isWhole: true });
+      return record;
+    }
+    // Removes a record that isn't taken. One with edits stays: they are sent once there is a connection.
+    letGo(record) {
+      if (record.texts.size > 0)
+        record.release();
+      else
+        this.end(record, removalsOf(record));
+    }
+    // Writing ------------------------------------------------------------------------------------------------------
+    /** Looks at a transition of a document, and writes what it has changed. */
+    observe(core, { seen, replaced }) {
+      const record = this.records.get(core);
+      if (record === void 0)
+        return;
+      record.isWhole = record.isWhole || replaced;
+      record.entries.push(...seen);
+      this.dirty.add(core);
+      if (core.machine.pending > 0 || record.texts.size > 0)
+        this.schedule();
+      else
+        this.writeLater();
+    }
+    schedule() {
+      this.isUrgent = true;
+      this.writing = this.writing || this.writeAll();
+    }
+    writeLater() {
+      const started = () => {
+        this.timer = null;
+        this.schedule();
+      };
+      this.timer = this.timer || this.connection.clock.setTimeout(started, LATER);
+    }
+    // (the edits of this tick are written together)
+    async writeAll() {
+      await null;
+      while (this.isUrgent) {
+        this.isUrgent = false;
+        await this.write().then(() => this.hasFailed = false, (error) => this.recover(error));
+      }
+      this.writing = null;
+    }
+    async write() {
+      for (const core of this.dirty)
+        this.add(changesOf(core, this.records.get(core)));
+      this.dirty.clear();
+      const { changes, releases } = this;
+      const sent = [...this.records.keys()].map((core) => ({ core, ...core.machine.inFlight }));
+      Object.assign(this, { changes: /* @__PURE__ */ new Map(), releases: [] });
+      try {
+        if (changes.size > 0)
+          await this.methods.write([...changes]);
+      } catch (error) {
+        for (const record of this.records.values())
+          record.waits = record.waits || record.queued > 0;
+        this.changes = new Map([...changes, ...this.changes]);
+        this.releases.push(...releases);
+        throw error;
+      }
+      for (const record of this.records.values())
+        record.waits = record.queued > 0;
+      for (const release of releases)
+        release();
+      for (const { core, text, saved } of sent)
+        if (saved === false)
+          core.run({ type: "saved", text });
+    }
+    add(changes) {
+      for (const [key, text] of changes)
+        this.changes.set(key, text);
+    }
+    // Releases a record after its last changes.
+    end({ release }, changes) {
+      this.add(changes);
+      this.releases.push(release);
+      this.schedule();
+    }
+    /** The document is closed. Its record stays, if it isn't to be forgotten. */
+    leave(core, forgets) {
+      const record = this.records.get(core);
+      if (record === void 0)
+        return;
+      if (this.hasFailed) {
+        record.isWhole = true;
+        for (const key of record.texts.keys())
+          record.texts.set(key, "");
+      }
+      const changes = changesOf(core, record);
+      this.records.delete(core);
+      this.dirty.delete(core);
+      this.end(record, forgets ? [...changes, ...removalsOf(record)] : changes);
+    }
+    async close() {
+      this.connection.clock.clearTimeout(this.timer);
+      await Promise.all([...this.apart].map((client) => client.close()));
+      while (this.writing !== null)
+        await this.writing;
+    }
+    // Failures -----------------------------------------------------------------------------------------------------
+    // Without a connection the write is tried again. With one, the client continues without a storage.
+    async recover(error) {
+      if (!this.hasFailed)
+        this.connection.reportStorage(error);
+      this.hasFailed = true;
+      if (this.connection.state === "connected")
+        await this.giveUp();
+      if (this.records.size > 0) {
+        this.writeLater();
+      } else if (!this.isUrgent) {
+        this.changes.clear();
+        for (const release of this.releases.splice(0))
+          release();
+      }
+    }
+    // Removes the records, so that the documents can continue without them. The next start sends the edits that wait in
+    // a record that stays, so they aren't sent here.
+    async giveUp() {
+      const all = [...this.records];
+      const removals = [];
+      let isRemoved = true;
+      try {
+        for (const [, { front }] of all)
+          for (const key of await this.methods.keys(front))
+            removals.push([key, null]);
+        await this.methods.write(removals);
+      } catch {
+        isRemoved = false;
+      }
+      for (const [core, { front, waits, release }] of all) {
+        if (!this.records.has(core) || !isRemoved && waits)
+          continue;
+        for (const key of this.changes.keys())
+          if (key.startsWith(front))
+            this.changes.delete(key);
+        this.records.delete(core);
+        this.dirty.delete(core);
+        release();
+        core.run({ type: "saved" });
+      }
+    }
+    // Edits of closed tabs -----------------------------------------------------------------------------------------
+    /** There is a connection, or a sign of life of it. */
+    beat() {
+      if (this.hasFailed)
+        this.schedule();
+      else if (this.held === null)
+        this.look().catch((error) => this.connection.reportStorage(error));
+    }
+    // Sends the edits of records whose locks are free.
+    async look() {
+      for (const { front, document, pending } of placesOf(await this.methods.keys(""))) {
+        const release = pending ? await this.methods.lock(front) : null;
+        if (release !== null)
+          this.takeOver(front, document, release);
+      }
+    }
+    takeOver(front, document, release) {
+      const { connection } = this;
+      const [collection, id] = JSON.parse(document);
+      if (connection.state !== "connected") {
+        release();
+      } else if (connection.documents.has(document)) {
+        const keeperFor = (one) => new Keeper(this.methods, one, { front, release });
+        const client = connection.sendApart({ _keeperFor: keeperFor }, collection, id, () => this.apart.delete(client));
+        this.apart.add(client);
+      } else {
+        release();
+        connection.resume(collection, id);
+      }
+    }
+  };
+
+  // src/storage.js
+  function customStorage(methods) {
+    const keeperFor = (connection) => new Keeper(methods, connection);
+    return (
+      /** @type {any} */
+      { documents: () => documentsOf(methods), _keeperFor: keeperFor }
+    );
+  }
+  function indexedDbStorage(name) {
+    return customStorage(new Database(name));
+  }
+  var STORE = "texts";
+  function settled(request, done = "onsuccess", failed = "onerror") {
+    return new Promise((resolve, reject) => {
+      request[done] = () => resolve(request.result);
+      request[failed] = () => reject(request.error);
+    });
+  }
+  function rangeOf(front) {
+    return globalThis.IDBKeyRange.bound(front, `${front}￿`);
+  }
+  var Database = class {
+    constructor(name) {
+      this.name = name;
+      this.opened = null;
+    }
+    open() {
+      const request = globalThis.indexedDB.open(this.name, 1);
+      request.onupgradeneeded = () => request.result.createObjectStore(STORE, { keyPath: "key" });
+      return settled(request);
+    }
+    // (a database that the user removes is closed, and opened again by the next call)
+    async transaction(mode, options) {
+      try {
+        this.opened = this.opened || this.open();
+        return (await this.opened).transaction(STORE, mode, options);
+      } catch (error) {
+        this.opened = null;
+        throw error;
+      }
+    }
+    async keys(front) {
+      const transaction = await this.transaction("readonly");
+      return settled(transaction.objectStore(STORE).getAllKeys(rangeOf(front)));
+    }
+    async read(front) {
+      const transaction = await this.transaction("readonly");
+      const pairs = await settled(transaction.objectStore(STORE).getAll(rangeOf(front)));
+      return pairs.map(({ key, text }) => [key, text]);
+    }
+    async write(changes) {
+      const transaction = await this.transaction("readwrite", { durability: "strict" });
+      const done = settled(transaction, "oncomplete", "onabort");
+      const store = transaction.objectStore(STORE);
+      try {
+        for (const [key, text] of changes) {
+          if (text === null)
+            store.delete(key);
+          else
+            store.put({ key, text });
+        }
+        if (transaction.commit)
+          transaction.commit();
+      } catch (error) {
+        transaction.abort();
+        await done.catch(() => {
+        });
+        throw error;
+      }
+      await done;
+    }
+    lock(lock) {
+      return new Promise((resolve, reject) => {
+        const hold = (held) => held ? new Promise(resolve) : resolve(null);
+        globalThis.navigator.locks.request(`${this.name} ${lock}`, { ifAvailable: true }, hold).catch(reject);
+      });
+    }
+  };
 
   // src/undo.js
   var UndoManager = class extends Emitter {

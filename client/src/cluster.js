@@ -2,7 +2,7 @@
  * The connections to several servers, each of which has the documents of one bucket.
  * @module
  */
-import { Client, PLATFORM, completeOptions, connectionOf } from './connection.js';
+import { Client, PLATFORM, completeOptions, connectionOf, keyOf, resume } from './connection.js';
 import { Emitter } from './emitter.js';
 import { Refusal } from './errors.js';
 
@@ -18,6 +18,7 @@ import { Refusal } from './errors.js';
  * @property {{bucket: number, state: ClientState}} state
  * @property {Closing & {bucket: number}} close a connection, or an attempt, has ended
  * @property {{bucket: number, error: Refusal}} error an error that names no document
+ * @property {import('./connection.js').Unsent} refused edits of an earlier start, or of a closed tab, were dropped
  */
 /**
  * @typedef {import('./connection.js').ClientOptions & {idleDelay?: number}} ClusterOptions `idleDelay`: milliseconds
@@ -66,7 +67,7 @@ export class Cluster extends Emitter {
       cluster: this,
       address,
       buckets,
-      options: { ...others, clock, connect: false },
+      options: { ...others, clock, connect: false, isBucket: true },
       clock,
       idleDelay,
       wanted: connect,
@@ -75,6 +76,7 @@ export class Cluster extends Emitter {
       connections: new Map(), // by bucket; one that is closed stays, since it counts the edits of its source
     };
     Object.defineProperty(this, '_cluster', { value: () => core });
+    if (options.storage) resumePending(core, options.storage);
   }
 
   /**
@@ -165,14 +167,16 @@ export class Cluster extends Emitter {
     for (const client of clientsOf(this)) client.disconnect();
   }
 
-  /** Closes all connections and all documents for good. Pending edits are dropped, and fail with ERR_CLOSED. */
-  close() {
+  /**
+   * Closes all connections and all documents for good. Pending edits fail with ERR_CLOSED: they are dropped or, with a
+   * storage, kept for the next start.
+   * @returns {Promise<void>} is fulfilled when the storage has them
+   */
+  async close() {
     const core = coreOf(this);
     core.isClosed = true;
-    for (const connection of core.connections.values()) {
-      setTimer(core, connection, null);
-      connection.client.close();
-    }
+    for (const connection of core.connections.values()) setTimer(core, connection, null);
+    await Promise.all(clientsOf(this).map((client) => client.close()));
   }
 
   /**
@@ -248,12 +252,23 @@ function newConnection(core, bucket) {
   const connection = { bucket, client, isUsed: false, timer: null };
   client.on('state', (state) => cluster.emit('state', { bucket, state }));
   client.on('error', (error) => cluster.emit('error', { bucket, error }));
+  client.on('refused', (detail) => cluster.emit('refused', detail));
   client.on('close', (closing) => {
     core.closing = { bucket, ...closing };
     cluster.emit('close', core.closing);
   });
   connectionOf(client).becameIdle = () => setTimer(core, connection, () => leave(connection));
   return connection;
+}
+
+// Sends the pending edits of documents that the application hasn't opened. A storage that fails is reported by the
+// connections.
+async function resumePending(core, storage) {
+  for (const { collection, id, pending } of await storage.documents().catch(() => [])) {
+    const { documents } = connectionOf(connectionFor(core, id).client);
+    const isOpen = core.isClosed || documents.has(keyOf(collection, id));
+    if (pending && !isOpen) resume(core.cluster, core.cluster, collection, id);
+  }
 }
 
 // The connection is needed from now on.

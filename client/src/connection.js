@@ -3,7 +3,7 @@
  * @module
  */
 import { Emitter, emitAll } from './emitter.js';
-import { Refusal } from './errors.js';
+import { Refusal, refusal } from './errors.js';
 import { close as closeDoc, coreFor, keep, run } from './doc.js';
 import { isName } from './limits.js';
 import { dataOf } from './machine.js';
@@ -25,7 +25,17 @@ import { isObject } from './ot/component.js';
  * @typedef {object} ClientEvents
  * @property {ClientState} state
  * @property {Closing} close a connection, or an attempt, has ended
- * @property {Refusal} error an error that names no document: `state` says whether the client continues
+ * @property {Refusal} error an error that names no document: `state` says whether the client continues. The code
+ *   ERR_STORAGE says that the storage has failed: the client continues without it
+ * @property {Unsent} refused edits of an earlier start, or of a closed tab, were dropped. No document of the
+ *   application has reported them
+ */
+/** @typedef {{collection: string, id: string, error: Refusal, contents: import('./content.js').Content[]}} Unsent */
+/**
+ * Where documents and pending edits are kept between starts.
+ * @typedef {object} ClientStorage
+ * @property {() => Promise<Array<{collection: string, id: string, pending: boolean}>>} documents the documents that it
+ *   has, and whether edits of them are pending
  */
 /**
  * @typedef {object} Clock
@@ -36,7 +46,7 @@ import { isObject } from './ot/component.js';
 /**
  * @typedef {object} ClientOptions
  * @property {string} [source] names this client in all its edits. No two clients may share one, and none may be reused
- *   after a reload: a number that the server knows is a duplicate. Random by default.
+ *   after a reload: a number that the server knows is a duplicate. Random by default, and with a storage.
  * @property {any} [WebSocket] the class, if there is no global one
  * @property {boolean} [connect] false: the client connects only when `connect` is called
  * @property {number} [connectTimeout] milliseconds until an attempt without a handshake is given up: 20000
@@ -51,6 +61,7 @@ import { isObject } from './ot/component.js';
  *   `process.env.NODE_ENV` is 'development'
  * @property {boolean} [batch] false: an edit is sent at once if none is in flight. By default the edits of one tick,
  *   which no `await` separates, are sent together
+ * @property {ClientStorage} [storage] keeps documents and pending edits between starts. Without it they are lost
  * @property {Clock} [clock] the timers; those of the platform by default
  * @property {() => number} [random] from 0 to below 1, for the delays
  */
@@ -86,7 +97,8 @@ export const PLATFORM = {
   clearTimeout: (timer) => clearTimeout(timer),
 };
 
-function keyOf(collection, id) {
+/** @internal */
+export function keyOf(collection, id) {
   return JSON.stringify([collection, id]);
 }
 
@@ -112,7 +124,8 @@ function isDevelopment() {
 
 /** Returns the options with a source and a class, or throws. @internal */
 export function completeOptions(options) {
-  const { source = randomSource(), WebSocket = globalThis['WebSocket'] } = options;
+  const { WebSocket = globalThis['WebSocket'] } = options;
+  const source = options.storage || options.source === undefined ? randomSource() : options.source;
   if (typeof WebSocket !== 'function') {
     throw new Error("there is no WebSocket here: hand one over, as new Client(address, { WebSocket: require('ws') })");
   }
@@ -189,9 +202,13 @@ export class Client extends Emitter {
     connectionOf(this).disconnect();
   }
 
-  /** Closes the connection and all documents for good. Pending edits are dropped, and fail with ERR_CLOSED. */
-  close() {
-    connectionOf(this).close();
+  /**
+   * Closes the connection and all documents for good. Pending edits fail with ERR_CLOSED: they are dropped or, with a
+   * storage, kept for the next start.
+   * @returns {Promise<void>} is fulfilled when the storage has them
+   */
+  async close() {
+    await connectionOf(this).close();
   }
 
   /**
@@ -233,6 +250,17 @@ export class Client extends Emitter {
   }
 }
 
+/**
+ * Opens a document of which edits are pending until they are stored or refused. The client reports refused ones, since
+ * the application may not know the document.
+ * @internal
+ */
+export function resume(client, reporter, collection, id, options = {}) {
+  const doc = client.document(collection, id);
+  doc.on('refused', ({ error, contents }) => reporter.emit('refused', { collection, id, error, contents }));
+  return doc.destroy(options);
+}
+
 /** @internal */
 export function connectionOf(client) {
   return client._client();
@@ -242,6 +270,7 @@ class Connection {
   constructor(client, address, options) {
     this.client = client;
     this.address = address;
+    this.options = options;
     this.source = options.source;
     this.WebSocket = options.WebSocket;
     const { connectTimeout = 20000, heartbeat = 20000, retryDelay = 1000, longestDelay = 30000 } = options;
@@ -271,6 +300,7 @@ class Connection {
     this.requests = new Map(); // requested snapshots, by number: { text, isOwn, receive }
     this.documents = new Map();
     this.becameIdle = () => {}; // called when there is no document and no requested snapshot any more
+    this.keeper = options.storage?._keeperFor(this);
     this.transport = this.transportOf({ freeze, batch });
   }
 
@@ -281,13 +311,14 @@ class Connection {
       clock: this.clock,
       freeze,
       batch,
+      keeper: this.keeper,
       nextNumber: () => (this.number += 1),
       send: (text) => this.send(text),
       later: (action) => this.later(action),
       compare: (c, d, v, receive) => this.request({ a: 'nf', c, d, v }, true, receive),
       snapshot: (c, d, v) => this.snapshot({ a: 'nf', c, d, v }),
       snapshotAtTime: (c, d, ts) => this.snapshot({ a: 'nt', c, d, ts }),
-      forget: (doc) => this.forget(doc),
+      forget: (core, forgets) => this.forget(core, forgets),
     };
   }
 
@@ -325,13 +356,20 @@ class Connection {
   }
 
   close() {
-    if (this.state === 'closed') return;
+    if (this.state !== 'closed') this.closeAll();
+    return this.keeper?.close();
+  }
+
+  closeAll() {
     this.release();
     this.want(false);
     this.setTimer(null);
     const ended = this.end('disconnected', 'closed');
     this.state = 'closed';
-    for (const core of this.documents.values()) closeDoc(core);
+    for (const core of this.documents.values()) {
+      this.keeper?.leave(core, false);
+      closeDoc(core);
+    }
     this.documents.clear();
     this.rejectRequests(new Refusal('ERR_CLOSED'));
     emitAll(this.client, [...ended, ['state', 'closed']]);
@@ -344,6 +382,7 @@ class Connection {
     if (!this.documents.has(key)) {
       const core = coreFor(this.transport, collection, id);
       this.documents.set(key, core);
+      this.keeper?.open(core);
       if (this.state === 'connected') run(core, { type: 'connected' });
       if (this.error !== null) run(core, { type: 'failed', error: this.error });
     }
@@ -352,9 +391,33 @@ class Connection {
     return core.doc;
   }
 
-  forget({ collection, id }) {
-    this.documents.delete(keyOf(collection, id));
+  forget(core, forgets) {
+    this.documents.delete(keyOf(core.collection, core.id));
+    this.keeper?.leave(core, forgets);
     this.observeIdle();
+  }
+
+  // The storage --------------------------------------------------------------------------------------------------
+
+  // Sends the pending edits of a document that the application hasn't opened. A cluster does it at its start.
+  resume(collection, id) {
+    if (!this.options.isBucket) resume(this.client, this.client, collection, id);
+  }
+
+  // Sends pending edits of a document over a connection of their own, whose storage has these only. Calls `ended` when
+  // they are sent, or when the connection is lost.
+  sendApart(storage, collection, id, ended) {
+    const client = new Client(this.address, { ...this.options, connect: true, storage });
+    const end = () => client.close().then(ended);
+    client.on('close', end);
+    client.document(collection, id).on('error', end);
+    resume(client, this.client, collection, id, { forget: true }).then(end);
+    return client;
+  }
+
+  // The client continues without the storage.
+  reportStorage(error) {
+    this.client.emit('error', refusal('ERR_STORAGE', error.message));
   }
 
   snapshot(message) {
@@ -560,6 +623,7 @@ class Connection {
   // time for it.
   checkAlive() {
     const hasSlept = this.clock.now() - this.checkAt > LATE;
+    this.keeper?.beat();
     if (this.isAlive || hasSlept) this.requestSign(hasSlept ? TEST : this.heartbeat);
     else this.giveUp('silent');
   }
@@ -620,7 +684,9 @@ class Connection {
     for (const core of [...this.documents.values()]) {
       if (this.socket === socket && core.machine.state === 'offline') run(core, { type: 'connected' });
     }
-    if (this.socket === socket) this.client.emit('state', 'connected');
+    if (this.socket !== socket) return;
+    this.keeper?.beat();
+    this.client.emit('state', 'connected');
   }
 
   receiveForDocument(message) {

@@ -73,12 +73,13 @@ export class Doc extends Emitter {
    */
   constructor(transport, collection, id) {
     super();
-    const { source, nextNumber, clock, freeze, batch } = transport;
-    const machine = new Machine({ collection, id, source, nextNumber, now: clock.now, freeze, batch });
+    const { source, nextNumber, clock, freeze, batch, keeper } = transport;
+    const settings = { source, nextNumber, now: clock.now, freeze, batch, stores: keeper !== undefined };
+    const machine = new Machine({ collection, id, ...settings });
     // (the state is in a closure, so that a proxy of the document works too)
     const core = { doc: this, transport, machine, collection, id, waiting: false, timer: null, leaving: null };
     const submitAtOnce = (operation, from) => takeEdit(core, () => ({ op: readOperation(operation, Infinity) }), from);
-    Object.assign(core, { observers: new Set(), submitAtOnce });
+    Object.assign(core, { observers: new Set(), submitAtOnce, run: (input) => run(core, input) });
     Object.defineProperty(this, '_doc', { value: () => core });
   }
 
@@ -211,7 +212,8 @@ export class Doc extends Emitter {
    * Waits until nothing is pending, unsubscribes, and drops the document: the client then returns another object for
    * it. Edits and subscriptions after this call are refused with ERR_CLOSED, and never sent. If `Client.document` is
    * called for it before the end, the document stays and takes edits again.
-   * @param {{discard?: boolean}} [options] `discard` drops pending edits instead of waiting for them
+   * @param {{discard?: boolean, forget?: boolean}} [options] `discard` drops pending edits instead of waiting for them,
+   *   `forget` also removes the document from the storage
    * @returns {Promise<void>}
    */
   async destroy(options = {}) {
@@ -220,14 +222,15 @@ export class Doc extends Emitter {
     core.leaving = core.leaving || {};
     const { leaving } = core;
     const isKept = () => machine.state === 'closed' || core.leaving !== leaving;
-    if (options.discard) run(core, { type: 'discard', error: new Refusal('ERR_CLOSED') });
+    if (machine.isRestoring) await until(core, () => !machine.isRestoring || isKept());
+    if (options.discard && !isKept()) run(core, { type: 'discard', error: new Refusal('ERR_CLOSED') });
     await until(core, () => machine.pending === 0 || isKept());
     if (isKept()) return;
     await this.unsubscribe();
     // Answers that are received later must not reach the next object of this document.
     await until(core, () => machine.isQuiet || machine.state === 'offline' || isKept());
     if (isKept()) return;
-    core.transport.forget(this);
+    core.transport.forget(core, options.forget);
     close(core);
   }
 
@@ -376,7 +379,7 @@ export class Doc extends Emitter {
    * @returns {Promise<void>} is fulfilled when nothing is pending
    */
   whenNothingPending(listener) {
-    const settled = until(coreOf(this), (machine) => machine.pending === 0);
+    const settled = until(coreOf(this), (machine) => machine.pending === 0 && !machine.isRestoring);
     if (listener) settled.then(listener).catch(report);
     return settled;
   }
@@ -402,11 +405,13 @@ export function run(core, input) {
   while (machine.canAdvance) perform(core, machine.transition({ type: 'advance' }));
 }
 
-function perform(core, { messages, settled, events, changes, retries, comparison, release }) {
+function perform(core, transition) {
   const { transport, doc } = core;
+  const { messages, settled, events, changes, retries, comparison, release } = transition;
   callObservers(core.observers, changes);
   for (const message of messages) transport.send(message);
   if (release) Promise.resolve().then(() => run(core, { type: 'release' })).catch(report);
+  transport.keeper?.observe(core, transition);
   for (const retry of retries) transport.later(() => run(core, retry));
   if (comparison !== null) compare(core, comparison);
   for (const settle of settled) settle();

@@ -9,7 +9,7 @@
  *   'ERR_OP_VERSION_NEWER_THAN_CURRENT_SNAPSHOT' | 'ERR_DOC_WAS_DELETED' | 'ERR_DOC_ALREADY_CREATED' |
  *   'ERR_DOC_DOES_NOT_EXIST' | 'ERR_OT_OP_NOT_APPLIED' | 'ERR_OP_NOT_ALLOWED_IN_PROJECTION' | 'ERR_OUT_OF_MEMORY' |
  *   'ERR_LIMIT' | 'ERR_CLOSED' | 'ERR_FORBIDDEN' | 'ERR_NOT_LOADED' | 'ERR_PROTOCOL' | 'ERR_SERVER_RESTARTED' |
- *   'ERR_UNREACHABLE'} Code
+ *   'ERR_STORAGE' | 'ERR_UNREACHABLE'} Code
  */
 
 /** @type {Partial<Record<Code, string>>} */
@@ -25,6 +25,7 @@ const MESSAGES = {
   ERR_NOT_LOADED: 'document is not loaded: fetch it or subscribe to it first',
   ERR_PROTOCOL: 'the other end is no server of documents',
   ERR_SERVER_RESTARTED: 'the server was restarted and has lost the document',
+  ERR_STORAGE: 'the storage has failed',
   ERR_UNREACHABLE: 'the server can not be reached',
 };
 

@@ -18,6 +18,7 @@ export { difference } from './difference.js';
 export { Doc } from './doc.js';
 export { Emitter } from './emitter.js';
 export { Refusal } from './errors.js';
+export { customStorage, indexedDbStorage } from './storage.js';
 export { UndoManager } from './undo.js';
 export { apply, complete, compose, cross, invert, textChange, transformComponent } from './ot/index.js';
 export { transformOffset, transformPosition } from './ot/index.js';
@@ -50,6 +51,9 @@ export { transformOffset, transformPosition } from './ot/index.js';
 /** @typedef {import('./connection.js').ClientEvents} ClientEvents */
 /** @typedef {import('./connection.js').ClientOptions} ClientOptions */
 /** @typedef {import('./connection.js').ClientState} ClientState */
+/** @typedef {import('./connection.js').ClientStorage} ClientStorage */
+/** @typedef {import('./connection.js').Unsent} Unsent */
+/** @typedef {import('./storage.js').StorageMethods} StorageMethods */
 /**
  * @template [T=any]
  * @typedef {import('./doc.js').Snapshot<T>} Snapshot

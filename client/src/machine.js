@@ -21,6 +21,9 @@
  * the server stores. Both documents have overlays: they are made plain once a caller reads them.
  *
  * Requests are answered in the order in which they were sent, so they are kept in one queue.
+ *
+ * With a storage the first input is `restored`, and a connection is used only after it. A content is sent only after
+ * its `saved` input, so that the next start knows what may be stored.
  * @module
  */
 import { applyContent, crossContents, isComplete, isComposable, lengthOf } from './content.js';
@@ -38,13 +41,18 @@ import { firstPart, withShortRemoved } from './parts.js';
  */
 /** @typedef {{resolve: (value?: any) => void, reject: (error: Error) => void}} Waiter */
 /** @typedef {{kind: string, from: number | null, purpose: string, waiters: Waiter[], listed: any[]}} Request */
-/** @typedef {{content: Content, length: number, waiters: Waiter[], since: number}} Queued an own content that waits */
+/**
+ * An own content that waits. The numbers increase along the queue.
+ * @typedef {{number: number, content: Content, length: number, waiters: Waiter[], since: number}} Queued
+ */
 /**
  * The own content in flight.
  * @typedef {object} InFlight
  * @property {Content | null} content transformed; null if it is dropped
+ * @property {string} source that of an earlier start, if it was restored
  * @property {number} seq
  * @property {string} text the message
+ * @property {boolean} saved whether the message may be sent
  * @property {boolean} sent over this connection
  * @property {number | null} answered the version, if it was acknowledged
  * @property {Waiter[]} waiters
@@ -62,6 +70,19 @@ import { firstPart, withShortRemoved } from './parts.js';
  * @property {number | null} comparison the version of a snapshot to request, for a `compared` input
  * @property {import('./observers.js').Change[]} changes of `data`, in their order
  * @property {boolean} release whether a `release` input follows once the present tick ends
+ * @property {Seen[]} seen the stored operations that were applied to the confirmed document
+ * @property {boolean} replaced whether the confirmed document was replaced before these
+ */
+/** @typedef {{version: number, source: string, seq: number, content: Content}} Seen */
+/**
+ * A document as a storage has it: `log` has the operations stored since `version`.
+ * @typedef {object} Kept
+ * @property {number} version
+ * @property {{source: string, seq: number} | null} last
+ * @property {any} [data]
+ * @property {Seen[]} log
+ * @property {any} sent an `InFlight`
+ * @property {any[]} queue of `Queued`
  */
 
 const NEWER = 'ERR_OP_VERSION_NEWER_THAN_CURRENT_SNAPSHOT';
@@ -74,15 +95,17 @@ const numberIsUsed = (version) => refusal('ERR_PROTOCOL', `another operation has
 export class Machine {
   /**
    * @param {{collection: string, id: string, source: string, nextNumber: () => number, now: () => number,
-   *   freeze?: boolean, batch?: boolean}} settings
+   *   freeze?: boolean, batch?: boolean, stores?: boolean}} settings
    */
-  constructor({ collection, id, source, nextNumber, now, freeze = false, batch = false }) {
+  constructor({ collection, id, source, nextNumber, now, freeze = false, batch = false, stores = false }) {
     this.address = { c: collection, d: id };
     this.source = source;
     this.nextNumber = nextNumber;
     this.now = now;
     this.freeze = freeze;
     this.batch = batch; // edits of one tick, without an `await` between them, are sent together
+    this.stores = stores; // a content is saved before it is sent
+    this.isRestoring = stores; // the storage hasn't been read
     // bytes of the components of a message
     this.room = LONGEST_MESSAGE - bytesOf(this.textOf({ op: [] }, Number.MAX_SAFE_INTEGER, Number.MAX_SAFE_INTEGER));
     /** @type {State} */
@@ -324,6 +347,7 @@ export class Machine {
     this.version = snapshot.v;
     for (const version of this.arrived.keys()) if (version < snapshot.v) this.arrived.delete(version);
     this.confirmed = dataOf(snapshot);
+    this.out.replaced = true;
     this.data = this.confirmed;
     this.state = 'live';
     this.emitWhole(before);
@@ -416,7 +440,7 @@ export class Machine {
   // Stored operations --------------------------------------------------------------------------------------------
 
   isInFlight({ seq, src }) {
-    return this.inFlight !== null && seq === this.inFlight.seq && src === this.source;
+    return this.inFlight !== null && seq === this.inFlight.seq && src === this.inFlight.source;
   }
 
   // A message with a content is a stored operation, one without acknowledges the own one. An acknowledgement of a
@@ -480,6 +504,7 @@ export class Machine {
     }
     this.version += 1;
     this.last = { source, seq };
+    this.out.seen.push({ version, source, seq, content });
     if (shown && !isSent && !this.isConfirmedBy(before, own.content)) {
       this.refused(numberIsUsed(version));
       this.emit('version', { version, source, seq });
@@ -577,6 +602,7 @@ export class Machine {
     this.fetched = null;
     if (version < this.version || isSame(plain(this.confirmed), data)) return;
     this.confirmed = data;
+    this.out.replaced = true;
     this.replaceData();
     this.emit('healed', { version });
   }
@@ -685,7 +711,8 @@ export class Machine {
     const waiting = last && !this.preventCompose ? last.content.op : undefined;
     const length = content.op ? lengthOf(content.op) : 0;
     if (!waiting || !content.op || !isComposable(waiting.length + content.op.length, last.length + length)) {
-      this.queue.push({ content, length, waiters: [waiter], since: this.now() });
+      const number = last ? last.number + 1 : 0;
+      this.queue.push({ number, content, length, waiters: [waiter], since: this.now() });
       return;
     }
     const joined = compose(waiting, content.op);
@@ -696,46 +723,49 @@ export class Machine {
     this.resolve(last.waiters, { version: null });
   }
 
-  textOf(content, version, seq) {
-    return JSON.stringify({ a: 'op', ...this.address, v: version, src: this.source, seq, ...content });
+  textOf(content, version, seq, source = this.source) {
+    return JSON.stringify({ a: 'op', ...this.address, v: version, src: source, seq, ...content });
   }
 
   // At most one content is in flight. The next one is sent at the version that includes it.
   sendNext() {
-    if (this.inFlight !== null) {
-      if (!this.inFlight.sent) this.out.messages.push(this.inFlight.text);
-      this.inFlight.sent = true;
-      return;
+    if (this.inFlight === null) {
+      const first = this.isHeld ? undefined : this.queue.shift();
+      if (first) this.takeFirst(first);
     }
-    const first = this.isHeld ? undefined : this.queue.shift();
-    if (first) this.sendFirst(first);
+    const own = this.inFlight;
+    if (own === null || own.sent || !own.saved) return;
+    own.sent = true;
+    this.out.messages.push(own.text);
   }
 
   // Sends a content again, as it applies now: the server may have refused it since it missed too much.
   sendAgain(own) {
     const fits = own.content !== null && (!own.content.op || firstPart(own.content.op, this.room).rest.length === 0);
-    if (fits) own.text = this.textOf(own.content, this.version, own.seq);
-    this.out.messages.push(own.text);
+    if (fits) own.text = this.textOf(own.content, this.version, own.seq, own.source);
+    if (fits && this.stores) Object.assign(own, { saved: false, sent: false });
+    else this.out.messages.push(own.text);
   }
 
   // An operation that grew beyond the server's limits is sent in parts. Its promise waits for the last one.
-  sendFirst({ content, waiters, since }) {
+  takeFirst({ number, content, waiters, since }) {
     const { part, rest } = content.op ? firstPart(content.op, this.room) : { part: null, rest: [] };
-    if (rest.length > 0) this.queue.unshift({ content: { op: rest }, length: lengthOf(rest), waiters, since });
+    if (rest.length > 0) this.queue.unshift({ number, content: { op: rest }, length: lengthOf(rest), waiters, since });
     const sent = part ? { op: part } : content;
     const seq = this.nextNumber();
     this.inFlight = {
       content: sent,
+      source: this.source,
       seq,
       text: this.textOf(sent, this.version, seq),
-      sent: true,
+      saved: !this.stores,
+      sent: false,
       answered: null, // the version, if it was acknowledged
       waiters: rest.length > 0 ? [] : waiters,
       since,
       lost: null, // the content, if the server will refuse it
       dropped: [], // the contents made on it
     };
-    this.out.messages.push(this.inFlight.text);
   }
 
   // Drops pending contents from one on. The answer to the one in flight is outstanding, so it stays without a content.
@@ -770,6 +800,7 @@ export class Machine {
   // The connection -----------------------------------------------------------------------------------------------
 
   connected() {
+    if (this.isRestoring) return;
     this.state = 'idle';
     for (const request of this.requests.splice(0)) this.sendRequest(request);
   }
@@ -795,7 +826,34 @@ export class Machine {
     this.state = 'closed';
     this.wanted = false;
     this.failure = error;
-    this.discard({ error });
+    if (this.stores) for (const { waiters } of this.takePending()) this.reject(waiters, error);
+    else this.discard({ error });
+  }
+
+  // The storage ----------------------------------------------------------------------------------------------------
+
+  // The storage has been read. It may not have the document.
+  restored({ kept }) {
+    if (kept !== null) this.restore(kept);
+    this.isRestoring = false;
+  }
+
+  /** @param {Kept} kept */
+  restore({ version, last, data, log, sent, queue }) {
+    const fresh = (one) => ({ ...one, waiters: [], since: this.now() });
+    this.confirmed = log.reduce((before, { content }) => applyContent(before, content), data);
+    this.version = version + log.length;
+    this.last = log[log.length - 1] || last;
+    this.queue = queue.map(fresh);
+    if (sent !== null) this.inFlight = { ...fresh(sent), dropped: sent.dropped.map(fresh) };
+    this.replaceData();
+    this.emit('load', { version: this.version });
+  }
+
+  // The message is saved. Without one the storage keeps the document no more.
+  saved({ text }) {
+    this.stores = text !== undefined;
+    if (this.inFlight !== null && (!this.stores || this.inFlight.text === text)) this.inFlight.saved = true;
   }
 
   // Calls --------------------------------------------------------------------------------------------------------
@@ -850,7 +908,8 @@ export class Machine {
 // Returns the effects of a transition that has none.
 /** @returns {Omit<Transition, 'state'>} */
 function nothing() {
-  return { messages: [], settled: [], events: [], changes: [], retries: [], comparison: null, release: false };
+  const effects = { messages: [], settled: [], events: [], changes: [], retries: [], comparison: null, release: false };
+  return { ...effects, seen: [], replaced: false };
 }
 
 const INPUTS = {
@@ -859,6 +918,8 @@ const INPUTS = {
   failed: (machine, { error }) => (machine.failure = error),
   trying: (machine) => (machine.failure = null),
   closed: (machine, { error }) => machine.closed(error),
+  restored: (machine, input) => machine.restored(input),
+  saved: (machine, input) => machine.saved(input),
   message: (machine, input) => machine.receive(input),
   compared: (machine, input) => machine.receiveCompared(input),
   retry: (machine, input) => machine.retry(input),

@@ -32,6 +32,11 @@ TESTS = {
     "undo.js": ["undo.test.js"],
     "bind_text.js": ["bind_text.test.js"],
     "observers.js": ["undo.test.js"],
+    "codemirror.js": ["codemirror.test.js"],
+    "react.js": ["react.test.js"],
+    "keeper.js": ["storage.test.js", "storage_fuzz.test.js"],
+    "storage.js": ["storage.test.js", "browser_storage.test.js"],
+    "folder_storage.js": ["folder_storage.test.js"],
     "": [
         "batch.test.js",
         "parts.test.js",
@@ -42,6 +47,7 @@ TESTS = {
         "faults.test.js",
         "ot.test.js",
         "undo.test.js",
+        "storage.test.js",
     ],
 }
 FIXED = {"SEED": "7", "CASES": "1500", "RUNS": "6", "TIMEOUT": "10000"}

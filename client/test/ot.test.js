@@ -339,6 +339,7 @@ test('a part has at most 256 components and fits into its room', OPTIONS, () => 
 test('the exports', OPTIONS, () => {
   assert.deepStrictEqual(Object.keys(index).sort(), [
     'Client', 'Cluster', 'Doc', 'Emitter', 'Refusal', 'UndoManager', 'apply', 'bindText', 'bucketOf', 'complete', 'compose', 'cross',
-    'difference', 'invert', 'textChange', 'transformComponent', 'transformOffset', 'transformPosition',
+    'customStorage', 'difference', 'indexedDbStorage', 'invert', 'textChange', 'transformComponent', 'transformOffset',
+    'transformPosition',
   ]);
 });

@@ -26,6 +26,10 @@ const MODULES = {
   'difference.js': 'difference.cjs',
   'undo.js': 'undo.cjs',
   'bind_text.js': 'bind_text.cjs',
+  'storage.js': 'storage.cjs',
+  'folder_storage.js': 'folder_storage.cjs',
+  'react.js': 'react.cjs',
+  'codemirror.js': 'codemirror.cjs',
 };
 
 const VERSIONS = { esbuild: '0.17.0', tsc: 'Version 4.8.4' };
@@ -46,7 +50,7 @@ function buildScripts(folder) {
   const out = (name) => path.join(folder, name);
   if (!bundle('src/index.js', out('navirotsohy.js'), '--format=iife', '--global-name=Navirotsohy')) return false;
   for (const [entry, name] of Object.entries(MODULES)) {
-    bundle(`src/${entry}`, out(name), '--format=cjs', '--platform=neutral');
+    bundle(`src/${entry}`, out(name), '--format=cjs', '--platform=neutral', '--external:node:*');
   }
   return true;
 }

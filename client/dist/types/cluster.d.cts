@@ -68,8 +68,12 @@ export class Cluster extends Emitter<ClusterEvents> {
     connect(): void;
     /** Closes all connections. What is submitted from now on is sent after the next `connect`. */
     disconnect(): void;
-    /** Closes all connections and all documents for good. Pending edits are dropped, and fail with ERR_CLOSED. */
-    close(): void;
+    /**
+     * Closes all connections and all documents for good. Pending edits fail with ERR_CLOSED: they are dropped or, with a
+     * storage, kept for the next start.
+     * @returns {Promise<void>} is fulfilled when the storage has them
+     */
+    close(): Promise<void>;
     /**
      * The document of this collection and id, the same object until it is destroyed.
      * @template [T=any]
@@ -129,6 +133,10 @@ export type ClusterEvents = {
         bucket: number;
         error: Refusal;
     };
+    /**
+     * edits of an earlier start, or of a closed tab, were dropped
+     */
+    refused: import('./connection.cjs').Unsent;
 };
 /**
  * `idleDelay`: milliseconds

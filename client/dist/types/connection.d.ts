@@ -1,5 +1,13 @@
+/** @internal */
+export function keyOf(collection: any, id: any): string;
 /** Returns the options with a source and a class, or throws. @internal */
 export function completeOptions(options: any): any;
+/**
+ * Opens a document of which edits are pending until they are stored or refused. The client reports refused ones, since
+ * the application may not know the document.
+ * @internal
+ */
+export function resume(client: any, reporter: any, collection: any, id: any, options?: {}): any;
 /** @internal */
 export function connectionOf(client: any): any;
 /** @type {Clock} @internal */
@@ -43,8 +51,12 @@ export class Client extends Emitter<ClientEvents> {
     connect(): void;
     /** Closes the connection. What is submitted from now on is sent after the next `connect`. */
     disconnect(): void;
-    /** Closes the connection and all documents for good. Pending edits are dropped, and fail with ERR_CLOSED. */
-    close(): void;
+    /**
+     * Closes the connection and all documents for good. Pending edits fail with ERR_CLOSED: they are dropped or, with a
+     * storage, kept for the next start.
+     * @returns {Promise<void>} is fulfilled when the storage has them
+     */
+    close(): Promise<void>;
     /**
      * The document of this collection and id, the same object until it is destroyed.
      * @template [T=any]
@@ -97,9 +109,35 @@ export type ClientEvents = {
      */
     close: Closing;
     /**
-     * an error that names no document: `state` says whether the client continues
+     * an error that names no document: `state` says whether the client continues. The code
+     * ERR_STORAGE says that the storage has failed: the client continues without it
      */
     error: Refusal;
+    /**
+     * edits of an earlier start, or of a closed tab, were dropped. No document of the
+     * application has reported them
+     */
+    refused: Unsent;
+};
+export type Unsent = {
+    collection: string;
+    id: string;
+    error: Refusal;
+    contents: import('./content.js').Content[];
+};
+/**
+ * Where documents and pending edits are kept between starts.
+ */
+export type ClientStorage = {
+    /**
+     * the documents that it
+     * has, and whether edits of them are pending
+     */
+    documents: () => Promise<Array<{
+        collection: string;
+        id: string;
+        pending: boolean;
+    }>>;
 };
 export type Clock = {
     /**
@@ -112,7 +150,7 @@ export type Clock = {
 export type ClientOptions = {
     /**
      * names this client in all its edits. No two clients may share one, and none may be reused
-     * after a reload: a number that the server knows is a duplicate. Random by default.
+     * after a reload: a number that the server knows is a duplicate. Random by default, and with a storage.
      */
     source?: string | undefined;
     /**
@@ -156,6 +194,10 @@ export type ClientOptions = {
      * which no `await` separates, are sent together
      */
     batch?: boolean | undefined;
+    /**
+     * keeps documents and pending edits between starts. Without it they are lost
+     */
+    storage?: ClientStorage | undefined;
     /**
      * the timers; those of the platform by default
      */

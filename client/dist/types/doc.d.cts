@@ -144,11 +144,13 @@ export class Doc<T = any> extends Emitter<DocEvents<T>> {
      * Waits until nothing is pending, unsubscribes, and drops the document: the client then returns another object for
      * it. Edits and subscriptions after this call are refused with ERR_CLOSED, and never sent. If `Client.document` is
      * called for it before the end, the document stays and takes edits again.
-     * @param {{discard?: boolean}} [options] `discard` drops pending edits instead of waiting for them
+     * @param {{discard?: boolean, forget?: boolean}} [options] `discard` drops pending edits instead of waiting for them,
+     *   `forget` also removes the document from the storage
      * @returns {Promise<void>}
      */
     destroy(options?: {
         discard?: boolean | undefined;
+        forget?: boolean | undefined;
     } | undefined): Promise<void>;
     /**
      * The document at a version.

@@ -2,9 +2,9 @@ export function dataOf(snapshot: any): any;
 export class Machine {
     /**
      * @param {{collection: string, id: string, source: string, nextNumber: () => number, now: () => number,
-     *   freeze?: boolean, batch?: boolean}} settings
+     *   freeze?: boolean, batch?: boolean, stores?: boolean}} settings
      */
-    constructor({ collection, id, source, nextNumber, now, freeze, batch }: {
+    constructor({ collection, id, source, nextNumber, now, freeze, batch, stores }: {
         collection: string;
         id: string;
         source: string;
@@ -12,6 +12,7 @@ export class Machine {
         now: () => number;
         freeze?: boolean;
         batch?: boolean;
+        stores?: boolean;
     });
     address: {
         c: string;
@@ -22,6 +23,8 @@ export class Machine {
     now: () => number;
     freeze: boolean;
     batch: boolean;
+    stores: boolean;
+    isRestoring: boolean;
     room: number;
     /** @type {State} */
     state: State;
@@ -156,10 +159,11 @@ export class Machine {
     };
     checkSendable(content: any): void;
     enqueue(content: any, waiter: any): void;
-    textOf(content: any, version: any, seq: any): string;
+    textOf(content: any, version: any, seq: any, source?: string): string;
     sendNext(): void;
     sendAgain(own: any): void;
-    sendFirst({ content, waiters, since }: {
+    takeFirst({ number, content, waiters, since }: {
+        number: any;
         content: any;
         waiters: any;
         since: any;
@@ -170,6 +174,14 @@ export class Machine {
     connected(): void;
     disconnected(): void;
     closed(error: any): void;
+    restored({ kept }: {
+        kept: any;
+    }): void;
+    /** @param {Kept} kept */
+    restore({ version, last, data, log, sent, queue }: Kept): void;
+    saved({ text }: {
+        text: any;
+    }): void;
     resume(): void;
     fetch({ waiter }: {
         waiter: any;
@@ -211,9 +223,10 @@ export type Request = {
     listed: any[];
 };
 /**
- * an own content that waits
+ * An own content that waits. The numbers increase along the queue.
  */
 export type Queued = {
+    number: number;
     content: Content;
     length: number;
     waiters: Waiter[];
@@ -227,11 +240,19 @@ export type InFlight = {
      * transformed; null if it is dropped
      */
     content: Content | null;
+    /**
+     * that of an earlier start, if it was restored
+     */
+    source: string;
     seq: number;
     /**
      * the message
      */
     text: string;
+    /**
+     * whether the message may be sent
+     */
+    saved: boolean;
     /**
      * over this connection
      */
@@ -284,4 +305,38 @@ export type Transition = {
      * whether a `release` input follows once the present tick ends
      */
     release: boolean;
+    /**
+     * the stored operations that were applied to the confirmed document
+     */
+    seen: Seen[];
+    /**
+     * whether the confirmed document was replaced before these
+     */
+    replaced: boolean;
+};
+export type Seen = {
+    version: number;
+    source: string;
+    seq: number;
+    content: Content;
+};
+/**
+ * A document as a storage has it: `log` has the operations stored since `version`.
+ */
+export type Kept = {
+    version: number;
+    last: {
+        source: string;
+        seq: number;
+    } | null;
+    data?: any;
+    log: Seen[];
+    /**
+     * an `InFlight`
+     */
+    sent: any;
+    /**
+     * of `Queued`
+     */
+    queue: any[];
 };

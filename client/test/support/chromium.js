@@ -8,6 +8,7 @@ import path from 'node:path';
 import { fileURLToPath } from 'node:url';
 
 const ROOT = fileURLToPath(new URL('../../..', import.meta.url));
+const PATIENCE = 120000; // milliseconds
 const OPTIONS = ['--headless=new', '--no-sandbox', '--disable-gpu', '--disable-dev-shm-usage', '--remote-debugging-pipe'];
 
 export function hasChromium() {
@@ -25,11 +26,11 @@ function serve(page) {
   return new Promise((resolve) => server.listen(0, '127.0.0.1', () => resolve(server)));
 }
 
-/** A tab: `call` sends a command of the DevTools protocol. */
-class Tab {
+/** The pipe to Chromium, which all tabs share. */
+class Pipe {
   constructor(child) {
     this.child = child;
-    this.session = undefined;
+    this.number = 0;
     this.answers = new Map();
     let read = '';
     child.stdio[4].setEncoding('utf8').on('data', (text) => {
@@ -47,19 +48,51 @@ class Tab {
     else resolve(result);
   }
 
-  call(method, params = {}) {
-    this.number = (this.number || 0) + 1;
-    const { number: id, session: sessionId } = this;
+  call(method, params, sessionId) {
+    this.number += 1;
+    const { number: id } = this;
     const answer = new Promise((resolve, reject) => this.answers.set(id, { resolve, reject }));
     this.child.stdio[3].write(`${JSON.stringify({ id, method, params, sessionId })}\0`);
     return answer;
+  }
+}
+
+/** A tab: `call` sends a command of the DevTools protocol. */
+class Tab {
+  constructor(pipe, address) {
+    this.pipe = pipe;
+    this.address = address;
+    this.session = undefined;
+  }
+
+  call(method, params = {}) {
+    return this.pipe.call(method, params, this.session);
   }
 
   async attach() {
     const { targetInfos } = await this.call('Target.getTargets');
     const { targetId } = targetInfos.find(({ type }) => type === 'page');
+    await this.attachTo(targetId);
+  }
+
+  async attachTo(targetId) {
     const { sessionId } = await this.call('Target.attachToTarget', { targetId, flatten: true });
-    this.session = sessionId;
+    Object.assign(this, { session: sessionId, targetId });
+  }
+
+  /** Opens the page, or the named one, in another tab. */
+  async open(rest, ready) {
+    const tab = new Tab(this.pipe, this.address);
+    const url = rest.startsWith('about:') ? rest : `${this.address}${rest}`;
+    const { targetId } = await tab.call('Target.createTarget', { url });
+    await tab.attachTo(targetId);
+    await tab.until(`document.readyState === 'complete' && (${ready})`);
+    return tab;
+  }
+
+  /** Closes the tab as a user does. */
+  async close() {
+    await this.pipe.call('Target.closeTarget', { targetId: this.targetId });
   }
 
   /** Evaluates an expression in the page, and waits for its promise. */
@@ -70,8 +103,16 @@ class Tab {
     return result.value;
   }
 
+  /** Waits until the condition, or its promise, holds. It is false while another page is being loaded. */
   async until(condition) {
-    while (!await this.evaluate(`Boolean(${condition})`)) await new Promise((resolve) => setTimeout(resolve, 20));
+    const isLoading = ({ message }) => /context|is not defined|navigated/.test(message);
+    const orFalse = (error) => (isLoading(error) ? false : Promise.reject(error));
+    const holds = () => this.evaluate(`(async () => Boolean(await (${condition})))()`).catch(orFalse);
+    const end = Date.now() + PATIENCE;
+    while (!await holds()) {
+      if (Date.now() > end) throw new Error(`it doesn't hold: ${condition}`);
+      await new Promise((resolve) => setTimeout(resolve, 20));
+    }
   }
 
   /** Presses a key with modifiers: 2 is Ctrl, 4 the command key, 8 Shift. */
@@ -102,10 +143,11 @@ export async function inChromium(page, ready, play) {
   const stdio = ['ignore', 'ignore', 'ignore', 'pipe', 'pipe'];
   const child = spawn('chromium', [...OPTIONS, `--user-data-dir=${folder}`, 'about:blank'], { stdio, detached: true });
   const ended = new Promise((resolve) => child.once('close', resolve));
+  const pipe = new Pipe(child);
   try {
-    const tab = new Tab(child);
+    const tab = new Tab(pipe, `http://127.0.0.1:${server.address().port}/`);
     await tab.attach();
-    await tab.call('Page.navigate', { url: `http://127.0.0.1:${server.address().port}/` });
+    await tab.call('Page.navigate', { url: tab.address });
     await tab.until(`document.readyState === 'complete' && (${ready})`);
     return await play(tab);
   } finally {

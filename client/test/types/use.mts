@@ -5,6 +5,12 @@ import { bindText as bindOnly } from 'navirotsohy/bind-text';
 import { difference as differenceOnly } from 'navirotsohy/difference';
 import { cross as crossOnly } from 'navirotsohy/ot';
 import { UndoManager as UndoOnly } from 'navirotsohy/undo';
+import { customStorage, indexedDbStorage } from 'navirotsohy';
+import type { ClientStorage, StorageMethods } from 'navirotsohy';
+import { indexedDbStorage as indexedDbOnly } from 'navirotsohy/storage';
+import { folderStorage } from 'navirotsohy/folder-storage';
+import { codeMirror } from 'navirotsohy/codemirror';
+import { docHook } from 'navirotsohy/react';
 import type { BucketState, Closing, Component, Data, DocEvents, Entry, Frozen, Operation, Snapshot, TextBinding } from 'navirotsohy';
 
 interface Card {
@@ -28,6 +34,25 @@ client.off('state');
 client.on('state', (state) => state === 'gone');
 // @ts-expect-error: no such event
 client.on('states', () => undefined);
+
+const methods: StorageMethods = {
+  keys: async (front) => [front],
+  read: async (front) => [[front, '']],
+  write: async (changes) => changes.forEach(([key, text]) => key + (text ?? '')),
+  lock: async (name) => (name === '' ? null : () => undefined),
+};
+const storages: ClientStorage[] = [customStorage(methods), indexedDbStorage('a'), indexedDbOnly('b')];
+const kept: Client = new Client('ws://127.0.0.1:8080', { storage: storages[0], connect: false });
+kept.on('refused', ({ collection, id, error, contents }) => [collection + id, error.code === 'ERR_STORAGE', contents.length]);
+export const folder = async (): Promise<void> => {
+  const storage = folderStorage('a');
+  const [{ collection, id, pending }] = await storage.documents();
+  if (pending) await kept.document(collection, id).destroy({ forget: true });
+  await kept.close();
+  await storage.close();
+};
+// @ts-expect-error: a method is missing
+customStorage({ keys: methods.keys });
 
 const cluster: Cluster = new Cluster('ws://127.0.0.1:8080', 16, { ...options, idleDelay: 10 });
 new Cluster((bucket) => `ws://127.0.0.1:8080/b/${bucket.toFixed()}`, 16);
@@ -94,6 +119,10 @@ export async function main(): Promise<void> {
   bindText(document.createElement('div'), board, ['title']);
   const position: number = transformPosition(1, operation, ['title'], 'right') + transformOffset(1, operation, ['title']);
   area.setSelectionRange(position, position);
+  const extension: unknown = codeMirror({}, board, ['cards', 'a', 'title'], { undo: undos, refused: (error) => error.code });
+  const useDoc = docHook((subscribe, read) => (subscribe(() => undefined), read()));
+  const rendered: string = useDoc(board, ['cards', 'a', 'title']) ?? typeof extension;
+  area.value = rendered;
   undos.stop();
   // @ts-expect-error: no such option
   new UndoManager(board, { limits: undone.version });
