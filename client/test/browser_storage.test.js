@@ -133,13 +133,11 @@ test('a tab that crashes keeps its edits', OPTIONS, () => play(async (tab) => {
   await tab.until('ops().length === 1');
   const next = await tab.open('about:blank', 'true');
   tab.call('Page.crash').catch(() => {});
-  await next.call('Page.navigate', { url: `${tab.address}#offline` });
-  await next.until('window.ready && doc.version === 3');
-  // (until the browser has released the locks of the tab, the document is shown without its edits)
-  while (await next.evaluate('doc.pending') === 0) {
-    await next.evaluate('window.isOld = true');
-    await next.call('Page.reload');
-    await next.until('!window.isOld && window.ready && doc.version === 3');
+  // (until the crash the first tab has its record's lock)
+  for (let pending = 0, load = 0; pending === 0; load += 1) {
+    await next.call('Page.navigate', { url: `${tab.address}?${load}#offline` });
+    await next.until(`location.search === '?${load}' && window.ready && doc.version === 3`);
+    pending = await next.evaluate('doc.pending');
   }
   assert.deepStrictEqual(await next.evaluate('doc.data'), { n: 0, t: 'abcd' });
 }));
