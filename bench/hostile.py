@@ -10,7 +10,7 @@ CLIENTS clients, 40 without it, do each of these at once, without a pause:
 
 The first ones are near the bound of what the server transforms, the last near that of what it transforms without a place.
 Meanwhile one client edits sixteen other documents in turn, one connects anew, and one sends edits of one component with the base
-version 1 to a document with 60 operations of 256 components. For each it prints the middle and the slowest, first without the
+version 1 to a document with 30 operations of 256 components. For each it prints the middle and the slowest, first without the
 hostile clients. An answer with ERR_OUT_OF_MEMORY counts as one, and is counted too. The hostile clients have the lowest priority,
 since they would be other machines.
 
@@ -24,7 +24,7 @@ from bystanders import COMPONENTS, TYPE, Client, Fault, Server, long_edit, repor
 
 HOSTILE = 40
 DOCUMENTS = 16
-ENTRIES = 60  # of the document with honest late edits
+ENTRIES = 30  # of the document with honest late edits, which it makes longer
 MISSED = 30  # by a hostile edit
 SHORT = 128  # components of a short one
 INSERTS = 1_792
