@@ -12,7 +12,7 @@ use Rattle.sdb_session.specs.Responses.{PlainSubscribeReply, entry_answers}
 use Rattle.sdb_session.specs.PumpModel as pump
 use Rattle.sdb_client_model.specs.Messages.{ServerMessage, op_message, caught_up, acknowledged, failed, subscribe_answers, submit_answers, subscription_messages}
 
--- the answer of a session that a message stands for; a refusal has an echo and a code
+-- the answer of a session that is this message of the machine; a refusal has an echo and a code
 abbrev pub answer_of : PlainKey → List ℕ → PlainEcho → Code → ServerMessage → PlainAnswer
 answer_of k source e code (op_message x) = wire.op_message k x
 answer_of k source e code caught_up = wire.caught_up k
